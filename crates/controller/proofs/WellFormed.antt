@@ -1,0 +1,47 @@
+-- A controller that passes the test meets what a cycle requires.
+use mathlib.Core.Bool.{Bool, true, false, _&&_}
+use mathlib.Core.Path.{_≡_, refl}
+use Prim.Native.Nat.{ℕ, _≤_, _<_}
+use lib.Dec.{leb, ltb}
+use borrow.Author.Tests.{leb-true, ltb-true}
+use Rattle.controller.specs.Prelude.{Reu, Dma, Idle, Running, DmaState}
+use Rattle.controller.specs.Constants.{expansionLimit, fullLength}
+use Rattle.controller.specs.Inner.{Sound, SoundDma}
+use Rattle.controller.specs.Refusals.{wellTransfer, wellDma, wellFormed}
+
+pub fst : (a b : Bool) → (a && b) ≡ true → a ≡ true
+fst true b e = refl
+fst false b e = e
+
+pub snd : (a b : Bool) → (a && b) ≡ true → b ≡ true
+snd true b e = e
+snd false true e = refl
+snd false false e = e
+
+well-transfer : (d : DmaState) → wellTransfer d ≡ true → Sound d
+well-transfer d e =
+    let len = fst (leb 1 (d .remaining) && leb (d .remaining) fullLength) _ e in
+    record {
+      low = leb-true _ _ (fst (leb 1 (d .remaining)) _ len);
+      high = leb-true _ _ (snd (leb 1 (d .remaining)) _ len);
+      addr = ltb-true _ _ (fst (ltb (d .«reu_addr» .0) expansionLimit) _ (snd (leb 1 (d .remaining) && leb (d .remaining) fullLength) _ e));
+    }
+
+well-dma : (attached : Bool) (x : Dma) → wellDma attached x ≡ true → SoundDma x
+well-dma a Idle e = tt
+well-dma a (Running d) e = well-transfer d (snd a _ e)
+
+pub well-sound : (u : Reu) → wellFormed u ≡ true → SoundDma (u .dma)
+unfolding wellFormed
+well-sound u e =
+    well-dma (u .attached) (u .dma)
+    (snd (ltb (u .«shadow_reu_addr») expansionLimit) _ (snd (leb (u .«swap_read_delay») 2) _ e))
+
+pub well-delay : (u : Reu) → wellFormed u ≡ true → u .«swap_read_delay» ≤ 2
+unfolding wellFormed
+well-delay u e = leb-true _ _ (fst (leb (u .«swap_read_delay») 2) _ e)
+
+pub well-shadow : (u : Reu) → wellFormed u ≡ true → u .«shadow_reu_addr» < expansionLimit
+unfolding wellFormed
+well-shadow u e =
+    ltb-true _ _ (fst (ltb (u .«shadow_reu_addr») expansionLimit) _ (snd (leb (u .«swap_read_delay») 2) _ e))

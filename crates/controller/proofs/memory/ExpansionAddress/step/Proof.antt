@@ -1,0 +1,12 @@
+use borrow.Author.Needs.{needs}
+use Rattle.controller.proofs.memory.ExpansionAddress.step.Statement.{statement}
+use Rattle.controller.proofs.memory.ExpansionAddress.step.Tie as tie
+
+returns-2 : tie.Need-returns-2
+returns-2 c =
+    let its-if1 = c .before .if1 in
+    rw (its-if1 .left)
+
+pub step-spec : {M : Type 1} → statement M
+step-spec =
+    tie.close (tie.spec (λ c. search needs) (λ c. search needs) returns-2)

@@ -1,0 +1,20 @@
+use Rattle.controller.specs.BusAction.{repeated}
+use borrow.Author.Needs.{needs}
+use Rattle.controller.proofs.reu.Reu.repeat.Statement.{statement}
+use Rattle.controller.proofs.reu.Reu.repeat.Tie as tie
+
+returns : tie.Need-returns
+unfolding repeated
+returns c =
+    let its-recall-starts = c .before .recall-starts in
+    rw (rw (its-recall-starts .ensures) at (c .if1 .taken))
+
+returns-2 : tie.Need-returns-2
+unfolding repeated
+returns-2 c =
+    let its-recall-starts = c .before .recall-starts in
+    rw (rw (its-recall-starts .ensures) at (c .if1 .left))
+
+pub repeat-spec : {M : Type 1} → statement M
+repeat-spec =
+    tie.close (tie.spec (λ c. search needs) (λ c κs. search needs) returns returns-2)

@@ -1,0 +1,14 @@
+use Rattle.controller.specs.TickDma.{tickDma}
+use borrow.Author.Needs.{needs}
+use Rattle.controller.proofs.reu.Reu.tick.Statement.{statement}
+use Rattle.controller.proofs.reu.Reu.tick.Tie as tie
+
+returns : tie.Need-returns
+unfolding tickDma
+returns c =
+    let its-tick-of = c .before .before .before .before .tick-of in
+    its-tick-of .ensures
+
+pub tick-spec : {M : Type 1} → statement M
+tick-spec =
+    tie.close (tie.spec (λ c κs. search needs) (λ c. search needs) (λ c. search needs) returns)

@@ -1,0 +1,15 @@
+use Prim.Native.Nat.{_+_, _*_}
+use native.Mathlib.Omega.{arith}
+use borrow.Author.Needs.{needs}
+use Rattle.controller.proofs.Laws.{joined}
+use Rattle.controller.proofs.start_dma.long_of.Statement.{statement}
+use Rattle.controller.proofs.start_dma.long_of.Tie as tie
+
+returns : tie.Need-returns
+returns c =
+    let its-args = c .before .args in
+    rw (c .word-of .ensures)
+    (joined 16 32 (its-args .bank) (its-args .hi * 256 + its-args .lo) (omega arith) (omega arith))
+
+pub long-of-spec : {M : Type 1} → statement M
+long-of-spec = tie.close (tie.spec (λ c κs. search needs) (λ c. search needs) returns)

@@ -1,0 +1,106 @@
+-- The public calls on a controller value: "A refusal has value 0 and changes no controller and no byte of anything lent".
+use Rattle.controller.specs.Prelude.{ℕ, _+_, _*_, Bool, cond, List, length, Cpu, Hold, Transfer, ReuBusAction, None, Read, Write, ReuC64Access, Reu, Answer, Stepped}
+use Rattle.controller.specs.Constants.{busSize, storageSize}
+use Rattle.controller.specs.Bytes.{bitOf}
+use Rattle.controller.specs.Registers.{readRegister, writeRegister, debugRegister}
+use Rattle.controller.specs.Timing.{c64Access}
+use Rattle.controller.specs.Dma.{active}
+use Rattle.controller.specs.StartDma.{triggerFf00}
+use Rattle.controller.specs.Enable.{resetReu, setEnabled}
+use Rattle.controller.specs.BusAction.{Granted, busAction, cpuReadyAfterDma}
+use Rattle.controller.specs.TickDma.{Ticked, tickDma}
+use Rattle.controller.specs.Cycle.{runReuCycle}
+use Rattle.controller.specs.Refusals.{refusalOf, checked}
+
+-- ---- "Values: a byte; 0/1; Cpu, Hold, Transfer 0, 1, 2; access 65,536 times 0 none, 1 read, 2 write, plus the address; the capacity"
+
+abbrev pub actionNumber : ReuBusAction → ℕ
+actionNumber Cpu = 0
+actionNumber Hold = 1
+actionNumber Transfer = 2
+
+abbrev pub accessNumber : ReuC64Access → ℕ
+accessNumber None = 0
+accessNumber (Read a) = 1 * 65536 + a .0
+accessNumber (Write a) = 2 * 65536 + a .0
+
+abbrev pub capacity : Bool → ℕ
+capacity attached = cond attached storageSize 0
+
+-- ---- accepted and refused; a call on the controller, with the storage, with bus and storage
+
+abbrev pub answered : ℕ → Reu → Answer
+answered v u = record { refusal = 0; value = v; reu = u }
+
+abbrev pub refused : Reu → ℕ → Answer
+refused u n = record { refusal = n; value = 0; reu = u }
+
+abbrev pub call : Reu → Answer → Answer
+call u done = checked (refusalOf u busSize storageSize) (refused u) done
+
+abbrev pub callStorage : Reu → List ℕ → (Answer × List ℕ) → (Answer × List ℕ)
+callStorage u s done = checked (refusalOf u busSize (length s)) (λ n. (refused u n, s)) done
+
+abbrev pub callBoth : Reu → List ℕ → List ℕ → (Answer × List ℕ × List ℕ) → (Answer × List ℕ × List ℕ)
+callBoth u m s done = checked (refusalOf u (length m) (length s)) (λ n. (refused u n, m, s)) done
+
+-- ---- the calls
+
+unfoldable pub resetCall : Reu → Answer
+resetCall u = call u (answered 0 (resetReu u))
+
+unfoldable pub storagePresentCall : Reu → Answer
+storagePresentCall u = call u (answered (bitOf (u .attached)) u)
+
+unfoldable pub capacityBytesCall : Reu → Answer
+capacityBytesCall u = call u (answered (capacity (u .attached)) u)
+
+unfoldable pub triggerCall : Reu → Answer
+triggerCall u = call u (answered 0 (triggerFf00 u))
+
+unfoldable pub readCall : Reu → ℕ → Answer
+readCall u addr = call u (answered (readRegister u addr .value) (readRegister u addr .reu))
+
+unfoldable pub writeCall : Reu → ℕ → ℕ → Answer
+writeCall u addr v = call u (answered 0 (writeRegister u addr v))
+
+unfoldable pub dmaActiveCall : Reu → Answer
+dmaActiveCall u = call u (answered (bitOf (active (u .dma))) u)
+
+unfoldable pub cpuReadyCall : Reu → Bool → Answer
+cpuReadyCall u high = call u (answered (bitOf (cpuReadyAfterDma u high .flag)) (cpuReadyAfterDma u high .reu))
+
+unfoldable pub debugRegisterCall : Reu → ℕ → Answer
+debugRegisterCall u i = call u (answered (debugRegister u i) u)
+
+unfoldable pub c64AccessCall : Reu → Answer
+c64AccessCall u = call u (answered (accessNumber (c64Access u)) u)
+
+abbrev pub enabledAnswer : (Reu × List ℕ) → (Answer × List ℕ)
+enabledAnswer x = (answered 0 (x .0), x .1)
+
+unfoldable pub setEnabledCall : Reu → List ℕ → Bool → (Answer × List ℕ)
+setEnabledCall u s enabled = callStorage u s (enabledAnswer (setEnabled u s enabled))
+
+abbrev pub grantedAnswer : Granted → (Answer × List ℕ)
+grantedAnswer x = (answered (actionNumber (x .0 .action)) (x .0 .reu), x .1)
+
+unfoldable pub busActionCall : Reu → List ℕ → Bool → Bool → ℕ → (Answer × List ℕ)
+busActionCall u s high phi1 cycle = callStorage u s (grantedAnswer (busAction u s high phi1 cycle))
+
+abbrev pub tickedAnswer : Ticked → (Answer × List ℕ × List ℕ)
+tickedAnswer x = (answered (bitOf (x .0 .flag)) (x .0 .reu), x .1, x .2)
+
+unfoldable pub tickCall : Reu → List ℕ → List ℕ → ℕ → Bool → (Answer × List ℕ × List ℕ)
+tickCall u m s cycle low = callBoth u m s (tickedAnswer (tickDma u m s cycle low))
+
+unfoldable pub cycleCall : Reu → List ℕ → List ℕ → Bool → Bool → ℕ → Bool → (Answer × List ℕ × List ℕ)
+cycleCall u m s high phi1 cycle low = callBoth u m s (tickedAnswer (runReuCycle u m s high phi1 cycle low))
+
+-- ---- the step over a controller that is lent: the answer, then the controller
+
+abbrev pub stepped : (Answer × List ℕ × List ℕ) → (Stepped × Reu × List ℕ × List ℕ)
+stepped x = (record { refusal = x .0 .refusal; value = x .0 .value }, x .0 .reu, x .1, x .2)
+
+abbrev pub stepCall : Reu → List ℕ → List ℕ → Bool → Bool → ℕ → Bool → (Stepped × Reu × List ℕ × List ℕ)
+stepCall u m s high phi1 cycle low = stepped (cycleCall u m s high phi1 cycle low)

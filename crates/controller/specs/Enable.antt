@@ -1,0 +1,31 @@
+-- New, reset, and the enable switch.
+use Rattle.controller.specs.Prelude.{ℕ, Bool, true, false, cond, List, [], _∷_, Idle, Reu}
+use Rattle.controller.specs.Constants.{version, withoutFf00, bankOnes, maskOnes, controlOnes}
+use Rattle.controller.specs.Bytes.{ones}
+use Rattle.controller.specs.Reu.{reuOf, withPower, withDma, cleared}
+use Rattle.controller.specs.Memory.{zeros}
+
+-- R1: STATUS $10, COMMAND $10, addresses 0, bank $F8 over a shadow of 0, length $FFFF, mask $1F, control $3F; "BA was high is true"
+abbrev pub fresh : Bool → Bool → Reu
+fresh enabled attached =
+    reuOf
+    (ones (version ∷ []) ∷ ones (withoutFf00 ∷ []) ∷ 0 ∷ 0 ∷ 0 ∷ 0 ∷ ones bankOnes ∷ 255 ∷ 255 ∷ ones maskOnes ∷ ones controlOnes ∷ [])
+    0 0 65535 enabled false attached false true false false false false false 0 Idle
+
+abbrev pub newReu : Reu
+newReu = fresh false false
+
+-- "Reset gives all but `enabled`, attached and the storage the state of new"
+abbrev pub resetReu : Reu → Reu
+resetReu u = fresh (u .enabled) (u .attached)
+
+-- "Disabling drops the transfer, clears what a start clears, lowers the interrupt level, keeps all registers and the two BA history flags"
+abbrev pub disabled : Reu → Reu
+disabled u = withDma (withPower (cleared u) false false (u .attached) false) Idle
+
+abbrev pub connected : Reu → Reu
+connected u = withPower u true (u .«irq_pending») true (u .«waiting_ff00»)
+
+-- "The first enabling attaches it and sets every byte to 0. Reset and disabling keep it"
+unfoldable pub setEnabled : Reu → List ℕ → Bool → (Reu × List ℕ)
+setEnabled u s enabled = cond enabled (connected u, cond (u .attached) s (zeros s)) (disabled u, s)

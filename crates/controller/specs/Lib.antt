@@ -1,0 +1,17 @@
+pub mod Prelude
+pub mod Constants
+pub mod Bytes
+pub mod Reu
+pub mod Registers
+pub mod Memory
+pub mod Timing
+pub mod Dma
+pub mod StartDma
+pub mod FinishDma
+pub mod Enable
+pub mod BusAction
+pub mod TickDma
+pub mod Cycle
+pub mod Refusals
+pub mod Calls
+pub mod Inner

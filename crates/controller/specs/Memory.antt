@@ -1,0 +1,30 @@
+-- The storage record, and the bytes of the bus.
+use Rattle.controller.specs.Prelude.{ℕ, _+_, _%_, List, getD, set, length, replicate, C64Address, ExpansionAddress, Offset}
+use Rattle.controller.specs.Constants.{busSize, expansionLimit, storageSize}
+
+-- "Offset = logical address modulo 524,288"
+abbrev pub physicalOffset : ExpansionAddress → Offset
+physicalOffset a = record { 0 = a .0 % storageSize }
+
+abbrev pub busByte : List ℕ → C64Address → ℕ
+busByte m a = getD m (a .0) 0
+
+abbrev pub setBus : List ℕ → C64Address → ℕ → List ℕ
+setBus m a v = set m (a .0) v
+
+abbrev pub storageByte : List ℕ → ExpansionAddress → ℕ
+storageByte s a = getD s (physicalOffset a .0) 0
+
+abbrev pub setStorage : List ℕ → ExpansionAddress → ℕ → List ℕ
+setStorage s a v = set s (physicalOffset a .0) v
+
+-- "sets every byte to 0"
+unfoldable pub zeros : List ℕ → List ℕ
+zeros s = replicate (length s) 0
+
+-- "the C64 address steps up, from $FFFF to $0000 by design, the expansion address likewise, from $FFFFFF to 0"
+abbrev pub nextC64 : C64Address → C64Address
+nextC64 a = record { 0 = (a .0 + 1) % busSize }
+
+abbrev pub nextReu : ExpansionAddress → ExpansionAddress
+nextReu a = record { 0 = (a .0 + 1) % expansionLimit }

@@ -1,0 +1,30 @@
+-- "Refused, by who can cause it": the refusal numbers of a controller value and of the lengths that are lent with it.
+use Rattle.controller.specs.Prelude.{ℕ, Bool, true, false, not, _&&_, _||_, cond, eqb, leb, ltb, Swap, Verify, DmaState, Dma, Idle, Running, Reu}
+use Rattle.controller.specs.Constants.{busSize, expansionLimit, storageSize, fullLength}
+use Rattle.controller.specs.Dma.{isType, isWritePhase}
+
+-- "a write phase without swap, a tail without verify or with remaining other than 1"
+abbrev pub wellTransfer : DmaState → Bool
+wellTransfer d =
+    (leb 1 (d .remaining) && leb (d .remaining) fullLength)
+    && (ltb (d .«reu_addr» .0) expansionLimit
+    && ((not (isWritePhase (d .«swap_phase»)) || isType (d .«transfer_type») Swap)
+    && (not (d .«verify_tail») || (isType (d .«transfer_type») Verify && eqb (d .remaining) 1))))
+
+-- "a transfer while not attached"
+abbrev pub wellDma : Bool → Dma → Bool
+wellDma attached Idle = true
+wellDma attached (Running d) = attached && wellTransfer d
+
+-- "delay 0-2"; an expansion address has 24 bits
+unfoldable pub wellFormed : Reu → Bool
+wellFormed u =
+    leb (u .«swap_read_delay») 2 && (ltb (u .«shadow_reu_addr») expansionLimit && wellDma (u .attached) (u .dma))
+
+-- "Tested in the order 1, 2, 3, 4, each only where the call lends that thing": a call that lends no bus or no storage has its full size here
+unfoldable pub refusalOf : Reu → ℕ → ℕ → ℕ
+refusalOf u bus storage = cond (wellFormed u) (cond (eqb bus busSize) (cond (eqb storage storageSize) 0 4) 3) 2
+
+-- what a call does that has the refusal number n, 0 for none
+unfoldable pub checked {ℓ} : {A : Type ℓ} → ℕ → (ℕ → A) → A → A
+checked n refused done = cond (eqb n 0) done (refused n)

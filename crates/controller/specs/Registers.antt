@@ -1,0 +1,79 @@
+-- The register record: what a read gives and does, what a write does, in the terms of the public register descriptions.
+use Rattle.controller.specs.Prelude.{ℕ, Bool, true, false, cond, [], _∷_, bitAnd, eqb, ltb, set, Reu, ReadAnswer}
+use Rattle.controller.specs.Constants.{status, command, c64Low, c64High, reuLow, reuHigh, reuBank, lengthLow, lengthHigh, interruptMask, addressControl, registerCount, unusedRegister, verifyError, endOfBlock, interrupt, withoutFf00, execute, bankOnes, maskOnes, controlOnes}
+use Rattle.controller.specs.Bytes.{bit, setBits, clearBits, lowByte, highByte, withLow, withHigh, withBank}
+use Rattle.controller.specs.Reu.{reg, setReg, withRegs, withIrq, withArmed, withShadows}
+use Rattle.controller.specs.StartDma.{startDma}
+use Rattle.controller.specs.FinishDma.{updateIrq}
+
+-- "Index = address AND $1F"
+abbrev pub registerIndex : ℕ → ℕ
+registerIndex addr = bitAnd addr 31
+
+-- ---- read
+
+-- the byte that a read of register i gives: some bits of the bank, the mask and the control are always 1
+abbrev pub shown : ℕ → ℕ → ℕ
+shown i v =
+    cond (eqb i reuBank) (setBits bankOnes v)
+    (cond (eqb i interruptMask) (setBits maskOnes v)
+    (cond (eqb i addressControl) (setBits controlOnes v) v))
+
+-- "A read returns the old byte, then bits 5, 6 and 7 of STATUS are cleared and the interrupt level falls"
+abbrev pub acknowledged : Reu → Reu
+acknowledged u = withIrq (setReg u status (clearBits (verifyError ∷ endOfBlock ∷ interrupt ∷ []) (reg u status))) false
+
+unfoldable pub readRegister : Reu → ℕ → ReadAnswer
+readRegister u addr =
+    cond (ltb (registerIndex addr) registerCount)
+    (cond (eqb (registerIndex addr) status)
+    (record { value = reg u status; reu = acknowledged u })
+    (record { value = shown (registerIndex addr) (reg u (registerIndex addr)); reu = u }))
+    (record { value = unusedRegister; reu = u })
+
+-- ---- write
+
+-- "All bits are kept. A write drops an armed trigger, then starts or arms if bit 7 is set"
+unfoldable pub writeCommand : Reu → ℕ → Reu
+writeCommand u v =
+    cond (bit v execute)
+    (cond (bit v withoutFf00) (startDma (withArmed (setReg u command v) false)) (withArmed (setReg u command v) true))
+    (withArmed (setReg u command v) false)
+
+-- "A write to a low or high byte changes the shadow and reloads both visible bytes of the pair from it"
+abbrev pub loadPair : Reu → ℕ → ℕ → ℕ → Reu
+loadPair u lo hi shadow = withRegs u (set (set (u .regs) lo (lowByte shadow)) hi (highByte shadow))
+
+abbrev pub writeC64 : Reu → ℕ → Reu
+writeC64 u n = loadPair (withShadows u n (u .«shadow_reu_addr») (u .«shadow_len»)) c64Low c64High n
+
+abbrev pub writeReu : Reu → ℕ → Reu
+writeReu u n = loadPair (withShadows u (u .«shadow_c64_addr») n (u .«shadow_len»)) reuLow reuHigh n
+
+abbrev pub writeLen : Reu → ℕ → Reu
+writeLen u n = loadPair (withShadows u (u .«shadow_c64_addr») (u .«shadow_reu_addr») n) lengthLow lengthHigh n
+
+-- "A bank write changes only the bank and its shadow", and "stores the bank OR $F8"
+abbrev pub writeBank : Reu → ℕ → Reu
+writeBank u bank =
+    withShadows (setReg u reuBank bank) (u .«shadow_c64_addr») (withBank (u .«shadow_reu_addr») bank) (u .«shadow_len»)
+
+-- "Mask is stored and read OR $1F, control OR $3F"; "Writes [of STATUS] are ignored"; "Index 11 to 31 .. ignores writes"
+unfoldable pub writeRegister : Reu → ℕ → ℕ → Reu
+writeRegister u addr v =
+    let i = registerIndex addr in
+    cond (eqb i command) (writeCommand u v)
+    (cond (eqb i c64Low) (writeC64 u (withLow (u .«shadow_c64_addr») v))
+    (cond (eqb i c64High) (writeC64 u (withHigh (u .«shadow_c64_addr») v))
+    (cond (eqb i reuLow) (writeReu u (withLow (u .«shadow_reu_addr») v))
+    (cond (eqb i reuHigh) (writeReu u (withHigh (u .«shadow_reu_addr») v))
+    (cond (eqb i reuBank) (writeBank u (setBits bankOnes v))
+    (cond (eqb i lengthLow) (writeLen u (withLow (u .«shadow_len») v))
+    (cond (eqb i lengthHigh) (writeLen u (withHigh (u .«shadow_len») v))
+    (cond (eqb i interruptMask) (updateIrq (setReg u interruptMask (setBits maskOnes v)))
+    (cond (eqb i addressControl) (setReg u addressControl (setBits controlOnes v)) u)))))))))
+
+-- ---- a look that changes nothing and folds no index
+
+unfoldable pub debugRegister : Reu → ℕ → ℕ
+debugRegister u i = cond (ltb i registerCount) (reg u i) unusedRegister

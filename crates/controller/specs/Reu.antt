@@ -1,0 +1,139 @@
+-- The controller record's fields, and a controller or a transfer with some of them replaced. There is no record update, so a maker has a
+-- place for each field, and each replacement names the others.
+use Rattle.controller.specs.Prelude.{ℕ, Bool, false, List, getD, set, C64Address, ExpansionAddress, TransferType, SwapPhase, DmaState, Dma, Reu}
+
+-- register i
+abbrev pub reg : Reu → ℕ → ℕ
+reg u i = getD (u .regs) i 0
+
+abbrev pub reuOf :
+    List ℕ → ℕ → ℕ → ℕ → Bool → Bool → Bool → Bool → Bool → Bool → Bool → Bool → Bool → Bool → ℕ → Dma → Reu
+reuOf r c e n enabled irq attached armed high repeat terminal late refresh release delay dma =
+    record {
+      regs = r;
+      «shadow_c64_addr» = c;
+      «shadow_reu_addr» = e;
+      «shadow_len» = n;
+      enabled = enabled;
+      «irq_pending» = irq;
+      attached = attached;
+      «waiting_ff00» = armed;
+      «ba_was_high» = high;
+      «recall_repeat» = repeat;
+      «terminal_swap_write» = terminal;
+      «late_ba_fall» = late;
+      «swap_refresh» = refresh;
+      «swap_release_pending» = release;
+      «swap_read_delay» = delay;
+      dma = dma;
+    }
+
+-- ---- the registers, the shadows (C64 address, expansion address, length)
+
+abbrev pub withRegs : Reu → List ℕ → Reu
+withRegs u r =
+    reuOf r (u .«shadow_c64_addr») (u .«shadow_reu_addr») (u .«shadow_len») (u .enabled) (u .«irq_pending»)
+    (u .attached) (u .«waiting_ff00») (u .«ba_was_high») (u .«recall_repeat») (u .«terminal_swap_write»)
+    (u .«late_ba_fall») (u .«swap_refresh») (u .«swap_release_pending») (u .«swap_read_delay») (u .dma)
+
+abbrev pub setReg : Reu → ℕ → ℕ → Reu
+setReg u i v = withRegs u (set (u .regs) i v)
+
+abbrev pub withShadows : Reu → ℕ → ℕ → ℕ → Reu
+withShadows u c e n =
+    reuOf (u .regs) c e n (u .enabled) (u .«irq_pending») (u .attached) (u .«waiting_ff00») (u .«ba_was_high»)
+    (u .«recall_repeat») (u .«terminal_swap_write») (u .«late_ba_fall») (u .«swap_refresh»)
+    (u .«swap_release_pending») (u .«swap_read_delay») (u .dma)
+
+-- ---- enabled, the interrupt level, attached, armed; the two flags of BA's history; the running command
+
+abbrev pub withPower : Reu → Bool → Bool → Bool → Bool → Reu
+withPower u enabled irq attached armed =
+    reuOf (u .regs) (u .«shadow_c64_addr») (u .«shadow_reu_addr») (u .«shadow_len») enabled irq attached armed
+    (u .«ba_was_high») (u .«recall_repeat») (u .«terminal_swap_write») (u .«late_ba_fall») (u .«swap_refresh»)
+    (u .«swap_release_pending») (u .«swap_read_delay») (u .dma)
+
+abbrev pub withIrq : Reu → Bool → Reu
+withIrq u irq = withPower u (u .enabled) irq (u .attached) (u .«waiting_ff00»)
+
+abbrev pub withArmed : Reu → Bool → Reu
+withArmed u armed = withPower u (u .enabled) (u .«irq_pending») (u .attached) armed
+
+abbrev pub withHistory : Reu → Bool → Bool → Reu
+withHistory u high late =
+    reuOf (u .regs) (u .«shadow_c64_addr») (u .«shadow_reu_addr») (u .«shadow_len») (u .enabled)
+    (u .«irq_pending») (u .attached) (u .«waiting_ff00») high (u .«recall_repeat») (u .«terminal_swap_write») late
+    (u .«swap_refresh») (u .«swap_release_pending») (u .«swap_read_delay») (u .dma)
+
+abbrev pub withDma : Reu → Dma → Reu
+withDma u dma =
+    reuOf (u .regs) (u .«shadow_c64_addr») (u .«shadow_reu_addr») (u .«shadow_len») (u .enabled)
+    (u .«irq_pending») (u .attached) (u .«waiting_ff00») (u .«ba_was_high») (u .«recall_repeat»)
+    (u .«terminal_swap_write») (u .«late_ba_fall») (u .«swap_refresh») (u .«swap_release_pending»)
+    (u .«swap_read_delay») dma
+
+-- ---- recall repeat, terminal write, refresh, release, delay
+
+abbrev pub withPending : Reu → Bool → Bool → Bool → Bool → ℕ → Reu
+withPending u repeat terminal refresh release delay =
+    reuOf (u .regs) (u .«shadow_c64_addr») (u .«shadow_reu_addr») (u .«shadow_len») (u .enabled)
+    (u .«irq_pending») (u .attached) (u .«waiting_ff00») (u .«ba_was_high») repeat terminal (u .«late_ba_fall»)
+    refresh release delay (u .dma)
+
+abbrev pub withRepeat : Reu → Bool → Reu
+withRepeat u v = withPending u v (u .«terminal_swap_write») (u .«swap_refresh») (u .«swap_release_pending») (u .«swap_read_delay»)
+
+abbrev pub withTerminal : Reu → Bool → Reu
+withTerminal u v = withPending u (u .«recall_repeat») v (u .«swap_refresh») (u .«swap_release_pending») (u .«swap_read_delay»)
+
+abbrev pub withRefresh : Reu → Bool → Reu
+withRefresh u v = withPending u (u .«recall_repeat») (u .«terminal_swap_write») v (u .«swap_release_pending») (u .«swap_read_delay»)
+
+abbrev pub withRelease : Reu → Bool → Reu
+withRelease u v = withPending u (u .«recall_repeat») (u .«terminal_swap_write») (u .«swap_refresh») v (u .«swap_read_delay»)
+
+abbrev pub withDelay : Reu → ℕ → Reu
+withDelay u v = withPending u (u .«recall_repeat») (u .«terminal_swap_write») (u .«swap_refresh») (u .«swap_release_pending») v
+
+-- "Each start clears armed, recall repeat, terminal write, delay, refresh and release"
+abbrev pub cleared : Reu → Reu
+cleared u = withArmed (withPending u false false false false 0) false
+
+-- ---- the transfer record
+
+abbrev pub dmaOf :
+    TransferType → SwapPhase → C64Address → ExpansionAddress → ℕ → Bool → Bool → Bool → ℕ → Bool → Bool → Bool
+    → DmaState
+dmaOf kind phase c e n fixC64 fixReu autoload latch first odd tail =
+    record {
+      «transfer_type» = kind;
+      «swap_phase» = phase;
+      «c64_addr» = c;
+      «reu_addr» = e;
+      remaining = n;
+      «fix_c64» = fixC64;
+      «fix_reu» = fixReu;
+      autoload = autoload;
+      latch = latch;
+      «first_byte» = first;
+      «read_clock_odd» = odd;
+      «verify_tail» = tail;
+    }
+
+-- phase, latch, read parity and verify tail: what a tick changes beside the counters
+abbrev pub withStep : DmaState → SwapPhase → ℕ → Bool → Bool → DmaState
+withStep d phase latch odd tail =
+    dmaOf (d .«transfer_type») phase (d .«c64_addr») (d .«reu_addr») (d .remaining) (d .«fix_c64») (d .«fix_reu»)
+    (d .autoload) latch (d .«first_byte») odd tail
+
+abbrev pub withPhase : DmaState → SwapPhase → DmaState
+withPhase d v = withStep d v (d .latch) (d .«read_clock_odd») (d .«verify_tail»)
+
+abbrev pub withLatch : DmaState → ℕ → DmaState
+withLatch d v = withStep d (d .«swap_phase») v (d .«read_clock_odd») (d .«verify_tail»)
+
+abbrev pub withOdd : DmaState → Bool → DmaState
+withOdd d v = withStep d (d .«swap_phase») (d .latch) v (d .«verify_tail»)
+
+abbrev pub withTail : DmaState → Bool → DmaState
+withTail d v = withStep d (d .«swap_phase») (d .latch) (d .«read_clock_odd») v

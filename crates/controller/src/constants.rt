@@ -1,0 +1,93 @@
+// The 8726's registers and bits.
+
+pub(crate) const REGISTER_COUNT: usize = 11;
+
+pub(crate) const STATUS: usize = 0;
+
+pub(crate) const COMMAND: usize = 1;
+
+pub(crate) const C64_ADDRESS_LOW: usize = 2;
+
+pub(crate) const C64_ADDRESS_HIGH: usize = 3;
+
+pub(crate) const REU_ADDRESS_LOW: usize = 4;
+
+pub(crate) const REU_ADDRESS_HIGH: usize = 5;
+
+pub(crate) const REU_ADDRESS_BANK: usize = 6;
+
+pub(crate) const TRANSFER_LENGTH_LOW: usize = 7;
+
+pub(crate) const TRANSFER_LENGTH_HIGH: usize = 8;
+
+pub(crate) const INTERRUPT_MASK: usize = 9;
+
+pub(crate) const ADDRESS_CONTROL: usize = 10;
+
+// The address bits that select a register.
+pub(crate) const REGISTER_INDEX_MASK: u16 = 0x1F;
+
+pub(crate) const STATUS_VERSION: u8 = 0x10;
+
+pub(crate) const STATUS_VERIFY_ERROR: u8 = 0x20;
+
+pub(crate) const STATUS_END_OF_BLOCK: u8 = 0x40;
+
+pub(crate) const STATUS_IRQ_PENDING: u8 = 0x80;
+
+pub(crate) const STATUS_EVENT_MASK: u8 = STATUS_VERIFY_ERROR
+    | STATUS_END_OF_BLOCK
+    | STATUS_IRQ_PENDING;
+
+pub(crate) const COMMAND_TRANSFER_TYPE_MASK: u8 = 0x03;
+
+pub(crate) const COMMAND_FF00_DISABLE: u8 = 0x10;
+
+pub(crate) const COMMAND_AUTOLOAD: u8 = 0x20;
+
+pub(crate) const COMMAND_EXECUTE: u8 = 0x80;
+
+pub(crate) const COMMAND_COMPLETION_MASK: u8 = 0x7F;
+
+pub(crate) const INTERRUPT_VERIFY_ENABLE: u8 = 0x20;
+
+pub(crate) const INTERRUPT_END_OF_BLOCK_ENABLE: u8 = 0x40;
+
+pub(crate) const INTERRUPT_GLOBAL_ENABLE: u8 = 0x80;
+
+pub(crate) const INTERRUPT_UNUSED_READ_HIGH: u8 = 0x1F;
+
+pub(crate) const ADDRESS_CONTROL_FIX_REU: u8 = 0x40;
+
+pub(crate) const ADDRESS_CONTROL_FIX_C64: u8 = 0x80;
+
+pub(crate) const ADDRESS_CONTROL_UNUSED_READ_HIGH: u8 = 0x3F;
+
+// The five bank bits that the 1764 does not connect.
+pub(crate) const BANK_UNUSED_READ_HIGH: u8 = 0xF8;
+
+pub(crate) const UNUSED_REGISTER_VALUE: u8 = 0xFF;
+
+pub(crate) const FULL_64K_TRANSFER_LENGTH: u32 = 65_536;
+
+// The longest wait of a swap's read.
+pub(crate) const LONGEST_READ_DELAY: u8 = 2;
+
+// The lengths of a lent bus and a lent storage, and the first number that is no expansion address.
+pub(crate) const BUS_BYTES: usize = 65_536;
+
+pub(crate) const REU_1764_CAPACITY_BYTES: usize = 524_288;
+
+pub(crate) const EXPANSION_ADDRESS_LIMIT: u32 = 0x0100_0000;
+
+// The refusals of a controller value, of a bus and of a storage.
+pub(crate) const ACCEPTED: u8 = 0;
+
+pub(crate) const REFUSED_CONTROLLER: u8 = 2;
+
+pub(crate) const REFUSED_BUS: u8 = 3;
+
+pub(crate) const REFUSED_STORAGE: u8 = 4;
+
+// An access is answered as this times its kind, 1 for a read and 2 for a write, plus the address.
+pub(crate) const ACCESS_KIND: u32 = 65_536;

@@ -1,0 +1,79 @@
+// The machine's cycle over the controller: run_reu_cycle of the original's src/memory/memory.rs, and the step over a lent controller.
+ghost use mathlib.Core.Path.{_≡_};
+ghost use Rattle.controller.specs.Calls.{stepCall};
+ghost use Rattle.controller.specs.Cycle.{cycleBy, runReuCycle};
+ghost use Rattle.controller.specs.Inner.{Lent};
+use crate::reu::FlagAnswer;
+use crate::reu::Reu;
+use crate::reu::Stepped;
+use crate::timing::ReuBusAction;
+
+impl Reu {
+    fn cycle_by(
+        self,
+        action: ReuBusAction,
+        bus: &mut [u8],
+        storage: &mut [u8],
+        cycle: u64,
+        ba_low: bool,
+    ) -> FlagAnswer
+        requires { ⌜ Lent (self .dma) (now bus) (now storage) ⌝ }
+        ensures { λ r. ⌜ (r, now (bus .exit), now (storage .exit)) ≡ cycleBy action self (now (bus .entry)) (now (storage .entry)) cycle «ba_low» ⌝ }
+    {
+        match action {
+            ReuBusAction::Cpu => FlagAnswer {
+                flag: false,
+                reu: self,
+            },
+            ReuBusAction::Hold => FlagAnswer {
+                flag: true,
+                reu: self,
+            },
+            ReuBusAction::Transfer => {
+                let ticked = self.tick(bus, storage, cycle, ba_low);
+                let reu = ticked.reu;
+                FlagAnswer { flag: true, reu }
+            }
+        }
+    }
+
+    // One cycle: the grant, and on Transfer a tick. Answers false for Cpu.
+    pub(crate) fn cycle(
+        self,
+        bus: &mut [u8],
+        storage: &mut [u8],
+        ba_high: bool,
+        ba_high_phi1: bool,
+        cycle: u64,
+        ba_low: bool,
+    ) -> FlagAnswer
+        requires { ⌜ Lent (self .dma) (now bus) (now storage) ⌝ }
+        ensures { λ r. ⌜ (r, now (bus .exit), now (storage .exit)) ≡ runReuCycle self (now (bus .entry)) (now (storage .entry)) «ba_high» «ba_high_phi1» cycle «ba_low» ⌝ }
+    {
+        let answer = self.next_action(storage, ba_high, ba_high_phi1, cycle);
+        let action = answer.action;
+        let reu = answer.reu;
+        reu.cycle_by(action, bus, storage, cycle, ba_low)
+    }
+}
+
+// Advances a controller that the caller lends by one cycle: `Reu::run_reu_cycle` on a copy, stored back whole.
+pub fn step(
+    reu: &mut Reu,
+    bus: &mut [u8],
+    storage: &mut [u8],
+    ba_high: bool,
+    ba_high_phi1: bool,
+    cycle: u64,
+    ba_low: bool,
+) -> Stepped
+    ensures { λ r. ⌜ (r, now (reu .exit), now (bus .exit), now (storage .exit)) ≡ stepCall (now (reu .entry)) (now (bus .entry)) (now (storage .entry)) «ba_high» «ba_high_phi1» cycle «ba_low» ⌝ }
+{
+    let before = *reu;
+    let done = before.run_reu_cycle(bus, storage, ba_high, ba_high_phi1, cycle, ba_low);
+    *reu = done.reu;
+    Stepped {
+        refusal: done.refusal,
+        value: done.value,
+    }
+}

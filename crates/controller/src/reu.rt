@@ -1,0 +1,383 @@
+// The controller, and its public calls. Each tests what it is handed, and answers a refusal, changing nothing, or does its work.
+ghost use mathlib.Core.Path.{_≡_};
+ghost use Rattle.controller.specs.Bytes.{bitOf};
+ghost use Rattle.controller.specs.Enable.{disabled, fresh, newReu, resetReu, setEnabled};
+ghost use Rattle.controller.specs.Calls.{accessNumber, actionNumber, answered, busActionCall, c64AccessCall, capacity, capacityBytesCall, cpuReadyCall, cycleCall, debugRegisterCall, dmaActiveCall, readCall, refused, resetCall, setEnabledCall, storagePresentCall, tickCall, triggerCall, writeCall};
+use crate::constants::ACCEPTED;
+use crate::constants::ACCESS_KIND;
+use crate::constants::ADDRESS_CONTROL_UNUSED_READ_HIGH;
+use crate::constants::BANK_UNUSED_READ_HIGH;
+use crate::constants::BUS_BYTES;
+use crate::constants::COMMAND_FF00_DISABLE;
+use crate::constants::INTERRUPT_UNUSED_READ_HIGH;
+use crate::constants::REGISTER_COUNT;
+use crate::constants::REU_1764_CAPACITY_BYTES;
+use crate::constants::STATUS_VERSION;
+use crate::dma::Dma;
+use crate::memory::clear;
+use crate::timing::ReuBusAction;
+use crate::timing::ReuC64Access;
+
+// The eleven registers beside the running command. The storage is the host's; `attached` says that it is there.
+pub struct Reu {
+    pub regs: [u8; REGISTER_COUNT],
+    pub shadow_c64_addr: u16,
+    pub shadow_reu_addr: u32,
+    pub shadow_len: u16,
+    pub enabled: bool,
+    pub irq_pending: bool,
+    pub attached: bool,
+    pub waiting_ff00: bool,
+    pub ba_was_high: bool,
+    pub recall_repeat: bool,
+    pub terminal_swap_write: bool,
+    pub late_ba_fall: bool,
+    pub swap_refresh: bool,
+    pub swap_release_pending: bool,
+    pub swap_read_delay: u8,
+    pub dma: Dma,
+}
+
+// What `read` answers: the byte, and the controller after it.
+pub struct ReadAnswer {
+    pub value: u8,
+    pub reu: Reu,
+}
+
+// A grant, and the controller after it.
+pub struct BusAnswer {
+    pub action: ReuBusAction,
+    pub reu: Reu,
+}
+
+// A truth value, and the controller after the call.
+pub struct FlagAnswer {
+    pub flag: bool,
+    pub reu: Reu,
+}
+
+// What a public call answers: the refusal number, 0 if it is accepted, the value, and the controller after it.
+pub struct Answer {
+    pub refusal: u8,
+    pub value: u32,
+    pub reu: Reu,
+}
+
+// What the step over a lent controller answers: the refusal number, 0 if it is accepted, and the value.
+pub struct Stepped {
+    pub refusal: u8,
+    pub value: u32,
+}
+
+// A controller after reset.
+fn fresh(enabled: bool, attached: bool) -> Reu
+    ensures { λ r. ⌜ r ≡ fresh enabled attached ⌝ }
+{
+    let regs = [
+        STATUS_VERSION,
+        COMMAND_FF00_DISABLE,
+        0,
+        0,
+        0,
+        0,
+        BANK_UNUSED_READ_HIGH,
+        0xFF,
+        0xFF,
+        INTERRUPT_UNUSED_READ_HIGH,
+        ADDRESS_CONTROL_UNUSED_READ_HIGH,
+    ];
+    let dma = Dma::Idle;
+    Reu {
+        regs,
+        shadow_c64_addr: 0,
+        shadow_reu_addr: 0,
+        shadow_len: 0xFFFF,
+        enabled,
+        irq_pending: false,
+        attached,
+        waiting_ff00: false,
+        ba_was_high: true,
+        recall_repeat: false,
+        terminal_swap_write: false,
+        late_ba_fall: false,
+        swap_refresh: false,
+        swap_release_pending: false,
+        swap_read_delay: 0,
+        dma,
+    }
+}
+
+impl Reu {
+    pub fn new() -> Reu
+        ensures { λ r. ⌜ r ≡ newReu ⌝ }
+    {
+        fresh(false, false)
+    }
+
+    pub(crate) fn after_reset(self) -> Reu
+        ensures { λ r. ⌜ r ≡ resetReu self ⌝ }
+    {
+        fresh(self.enabled, self.attached)
+    }
+
+    // Disabling drops the transfer, clears what a start clears, and lowers the interrupt.
+    pub(crate) fn disabled(self) -> Reu
+        ensures { λ r. ⌜ r ≡ disabled self ⌝ }
+    {
+        let dma = Dma::Idle;
+        let mut reu = self.cleared().with_dma(dma);
+        reu.enabled = false;
+        reu.irq_pending = false;
+        reu
+    }
+
+    // The first enabling attaches the storage and clears it.
+    pub(crate) fn switched(mut self, storage: &mut [u8], enabled: bool) -> Reu
+        ensures { λ r. ⌜ (r, now (storage .exit)) ≡ setEnabled self (now (storage .entry)) enabled ⌝ }
+    {
+        if !enabled {
+            return self.disabled();
+        }
+        self.enabled = true;
+        if self.attached {
+            return self;
+        }
+        self.attached = true;
+        clear(storage);
+        self
+    }
+}
+
+// The numbers of an answer.
+
+fn flag_number(b: bool) -> u32
+    ensures { λ r. ⌜ r ≡ bitOf b ⌝ }
+{
+    if b { 1 } else { 0 }
+}
+
+fn capacity(attached: bool) -> u32
+    ensures { λ r. ⌜ r ≡ capacity attached ⌝ }
+{
+    if attached {
+        REU_1764_CAPACITY_BYTES as u32
+    } else {
+        0
+    }
+}
+
+impl ReuBusAction {
+    fn number(self) -> u32
+        ensures { λ r. ⌜ r ≡ actionNumber self ⌝ }
+    {
+        match self {
+            ReuBusAction::Cpu => 0,
+            ReuBusAction::Hold => 1,
+            ReuBusAction::Transfer => 2,
+        }
+    }
+}
+
+impl ReuC64Access {
+    fn number(self) -> u32
+        ensures { λ r. ⌜ r ≡ accessNumber self ⌝ }
+    {
+        match self {
+            ReuC64Access::None => 0,
+            ReuC64Access::Read(addr) => ACCESS_KIND + (addr.0 as u32),
+            ReuC64Access::Write(addr) => 2 * ACCESS_KIND + (addr.0 as u32),
+        }
+    }
+}
+
+impl Reu {
+    fn answered(self, value: u32) -> Answer
+        ensures { λ r. ⌜ r ≡ answered value self ⌝ }
+    {
+        Answer {
+            refusal: ACCEPTED,
+            value,
+            reu: self,
+        }
+    }
+
+    fn refused(self, refusal: u8) -> Answer
+        ensures { λ r. ⌜ r ≡ refused self refusal ⌝ }
+    {
+        Answer {
+            refusal,
+            value: 0,
+            reu: self,
+        }
+    }
+
+    // Hard and soft reset do the same.
+    pub fn reset(self, _hard_reset: bool) -> Answer
+        ensures { λ r. ⌜ r ≡ resetCall self ⌝ }
+    {
+        let refusal = self.refusal(BUS_BYTES, REU_1764_CAPACITY_BYTES);
+        if refusal != ACCEPTED {
+            return self.refused(refusal);
+        }
+        self.after_reset().answered(0)
+    }
+
+    pub fn storage_present(self) -> Answer
+        ensures { λ r. ⌜ r ≡ storagePresentCall self ⌝ }
+    {
+        let refusal = self.refusal(BUS_BYTES, REU_1764_CAPACITY_BYTES);
+        if refusal != ACCEPTED {
+            return self.refused(refusal);
+        }
+        self.answered(flag_number(self.attached))
+    }
+
+    pub fn capacity_bytes(self) -> Answer
+        ensures { λ r. ⌜ r ≡ capacityBytesCall self ⌝ }
+    {
+        let refusal = self.refusal(BUS_BYTES, REU_1764_CAPACITY_BYTES);
+        if refusal != ACCEPTED {
+            return self.refused(refusal);
+        }
+        self.answered(capacity(self.attached))
+    }
+
+    pub fn trigger_ff00(self) -> Answer
+        ensures { λ r. ⌜ r ≡ triggerCall self ⌝ }
+    {
+        let refusal = self.refusal(BUS_BYTES, REU_1764_CAPACITY_BYTES);
+        if refusal != ACCEPTED {
+            return self.refused(refusal);
+        }
+        self.trigger().answered(0)
+    }
+
+    pub fn read(self, addr: u16) -> Answer
+        ensures { λ r. ⌜ r ≡ readCall self addr ⌝ }
+    {
+        let refusal = self.refusal(BUS_BYTES, REU_1764_CAPACITY_BYTES);
+        if refusal != ACCEPTED {
+            return self.refused(refusal);
+        }
+        let out = self.read_register(addr);
+        let reu = out.reu;
+        reu.answered(out.value as u32)
+    }
+
+    pub fn write(self, addr: u16, value: u8) -> Answer
+        ensures { λ r. ⌜ r ≡ writeCall self addr value ⌝ }
+    {
+        let refusal = self.refusal(BUS_BYTES, REU_1764_CAPACITY_BYTES);
+        if refusal != ACCEPTED {
+            return self.refused(refusal);
+        }
+        self.write_register(addr, value).answered(0)
+    }
+
+    pub fn dma_active(self) -> Answer
+        ensures { λ r. ⌜ r ≡ dmaActiveCall self ⌝ }
+    {
+        let refusal = self.refusal(BUS_BYTES, REU_1764_CAPACITY_BYTES);
+        if refusal != ACCEPTED {
+            return self.refused(refusal);
+        }
+        let dma = self.dma;
+        self.answered(flag_number(dma.is_active()))
+    }
+
+    pub fn cpu_ready_after_dma(self, ba_high: bool) -> Answer
+        ensures { λ r. ⌜ r ≡ cpuReadyCall self «ba_high» ⌝ }
+    {
+        let refusal = self.refusal(BUS_BYTES, REU_1764_CAPACITY_BYTES);
+        if refusal != ACCEPTED {
+            return self.refused(refusal);
+        }
+        let out = self.cpu_ready(ba_high);
+        let reu = out.reu;
+        reu.answered(flag_number(out.flag))
+    }
+
+    pub fn debug_register(self, index: u64) -> Answer
+        ensures { λ r. ⌜ r ≡ debugRegisterCall self index ⌝ }
+    {
+        let refusal = self.refusal(BUS_BYTES, REU_1764_CAPACITY_BYTES);
+        if refusal != ACCEPTED {
+            return self.refused(refusal);
+        }
+        let value = self.register_at(index);
+        self.answered(value as u32)
+    }
+
+    pub fn c64_access(self) -> Answer
+        ensures { λ r. ⌜ r ≡ c64AccessCall self ⌝ }
+    {
+        let refusal = self.refusal(BUS_BYTES, REU_1764_CAPACITY_BYTES);
+        if refusal != ACCEPTED {
+            return self.refused(refusal);
+        }
+        let access = self.next_access();
+        self.answered(access.number())
+    }
+
+    pub fn set_enabled(self, storage: &mut [u8], enabled: bool) -> Answer
+        ensures { λ r. ⌜ (r, now (storage .exit)) ≡ setEnabledCall self (now (storage .entry)) enabled ⌝ }
+    {
+        let refusal = self.refusal(BUS_BYTES, storage.len());
+        if refusal != ACCEPTED {
+            return self.refused(refusal);
+        }
+        let reu = self.switched(storage, enabled);
+        reu.answered(0)
+    }
+
+    pub fn bus_action(
+        self,
+        storage: &mut [u8],
+        ba_high: bool,
+        ba_high_phi1: bool,
+        cycle: u64,
+    ) -> Answer
+        ensures { λ r. ⌜ (r, now (storage .exit)) ≡ busActionCall self (now (storage .entry)) «ba_high» «ba_high_phi1» cycle ⌝ }
+    {
+        let refusal = self.refusal(BUS_BYTES, storage.len());
+        if refusal != ACCEPTED {
+            return self.refused(refusal);
+        }
+        let out = self.next_action(storage, ba_high, ba_high_phi1, cycle);
+        let reu = out.reu;
+        let action = out.action;
+        reu.answered(action.number())
+    }
+
+    pub fn tick_dma(self, bus: &mut [u8], storage: &mut [u8], cycle: u64, ba_low: bool) -> Answer
+        ensures { λ r. ⌜ (r, now (bus .exit), now (storage .exit)) ≡ tickCall self (now (bus .entry)) (now (storage .entry)) cycle «ba_low» ⌝ }
+    {
+        let refusal = self.refusal(bus.len(), storage.len());
+        if refusal != ACCEPTED {
+            return self.refused(refusal);
+        }
+        let out = self.tick(bus, storage, cycle, ba_low);
+        let reu = out.reu;
+        reu.answered(flag_number(out.flag))
+    }
+
+    pub fn run_reu_cycle(
+        self,
+        bus: &mut [u8],
+        storage: &mut [u8],
+        ba_high: bool,
+        ba_high_phi1: bool,
+        cycle: u64,
+        ba_low: bool,
+    ) -> Answer
+        ensures { λ r. ⌜ (r, now (bus .exit), now (storage .exit)) ≡ cycleCall self (now (bus .entry)) (now (storage .entry)) «ba_high» «ba_high_phi1» cycle «ba_low» ⌝ }
+    {
+        let refusal = self.refusal(bus.len(), storage.len());
+        if refusal != ACCEPTED {
+            return self.refused(refusal);
+        }
+        let out = self.cycle(bus, storage, ba_high, ba_high_phi1, cycle, ba_low);
+        let reu = out.reu;
+        reu.answered(flag_number(out.flag))
+    }
+}

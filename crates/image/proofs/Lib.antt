@@ -1,0 +1,5 @@
+pub mod Gets
+pub mod Digits
+pub mod Opening
+pub mod Packed
+pub mod Unpacked

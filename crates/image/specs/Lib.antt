@@ -1,0 +1,3 @@
+pub mod Layout
+pub mod Open
+pub mod Valid

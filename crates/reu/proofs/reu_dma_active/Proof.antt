@@ -1,0 +1,28 @@
+use Rattle.controller.specs.Calls.{dmaActiveCall}
+use Rattle.reu.proofs.Families.{look-refused, look-done}
+use borrow.Author.Needs.{needs}
+use Rattle.reu.proofs.reu_dma_active.Statement.{statement}
+use Rattle.reu.proofs.reu_dma_active.Tie as tie
+
+returns : tie.Need-returns
+returns c =
+    let its-if1 = c .before .if1 in
+    let its-open = c .before .before .«open» in
+    let its-args = c .before .before .before .before .args in
+    look-refused (its-args .image .now) (its-open .result) (its-open .ensures) (its-if1 .taken) _
+    (c .refused .ensures) dmaActiveCall
+
+returns-2 : tie.Need-returns-2
+returns-2 c =
+    let its-dma-active = c .before .dma-active in
+    let its-if1 = c .before .before .before .if1 in
+    let its-open = c .before .before .before .before .«open» in
+    let its-args = c .before .before .before .before .before .before .args in
+    look-done (its-args .image .now) (its-open .result) (its-open .ensures) (its-if1 .left) dmaActiveCall _ _
+    (its-dma-active .ensures) (c .code-of .ensures)
+
+pub reu-dma-active-spec : {M : Type 1} → statement M
+reu-dma-active-spec =
+    tie.close
+    (tie.spec (λ c κs. search needs) (λ c κs. search needs) returns (λ c κs. search needs)
+    (λ c κs. search needs) returns-2)

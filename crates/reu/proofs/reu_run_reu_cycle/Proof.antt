@@ -1,0 +1,40 @@
+use Rattle.controller.specs.Calls.{cycleCall}
+use Rattle.reu.specs.Exports.{flag}
+use Rattle.reu.proofs.Families.{both-refused, both-done, long}
+use borrow.Author.Needs.{needs}
+use Rattle.reu.proofs.reu_run_reu_cycle.Statement.{statement}
+use Rattle.reu.proofs.reu_run_reu_cycle.Tie as tie
+
+returns : tie.Need-returns
+returns c =
+    let its-if1 = c .before .if1 in
+    let its-open = c .before .before .«open» in
+    let its-args = c .before .before .before .before .before .before .before .args in
+    both-refused (its-args .image .now) (its-open .result) (its-open .ensures) (its-if1 .taken) _
+    (c .refused .ensures) (its-args .bus .now) (its-args .storage .now)
+    (λ u b t. cycleCall u b t (flag (its-args .ba-high)) (flag (its-args .ba-high-phi1)) (its-args .cycle) (flag (its-args .ba-low)))
+
+finish-requires : tie.Need-finish-requires
+finish-requires c κs =
+    let its-if1 = c .before .before .before .before .before .before .before .before .before .if1 in
+    let its-open = c .before .before .before .before .before .before .before .before .before .before .«open» in
+    let its-args = c .before .before .before .before .before .before .before .before .before .before .before .before .before .before .before .args in
+    long (its-args .image .now) (its-open .result) (its-open .ensures) (its-if1 .left)
+
+returns-2 : tie.Need-returns-2
+returns-2 c =
+    let its-finish = c .before .before .finish in
+    let its-run-reu-cycle = c .before .before .before .before .before .before .before .before .run-reu-cycle in
+    let its-if1 = c .before .before .before .before .before .before .before .before .before .before .before .before .if1 in
+    let its-open = c .before .before .before .before .before .before .before .before .before .before .before .before .before .«open» in
+    let its-args = c .before .before .before .before .before .before .before .before .before .before .before .before .before .before .before .before .before .before .args in
+    both-done (its-args .image .now) (its-open .result) (its-open .ensures) (its-if1 .left) (its-args .bus .now)
+    (its-args .storage .now)
+    (λ u b t. cycleCall u b t (flag (its-args .ba-high)) (flag (its-args .ba-high-phi1)) (its-args .cycle) (flag (its-args .ba-low)))
+    _ _ _ _ _ (its-run-reu-cycle .ensures) (its-finish .ensures)
+
+pub reu-run-reu-cycle-spec : {M : Type 1} → statement M
+reu-run-reu-cycle-spec =
+    tie.close
+    (tie.spec (λ c κs. search needs) (λ c κs. search needs) (λ c. search needs) returns (λ c κs. search needs)
+    finish-requires (λ c. search needs) (λ c. search needs) (λ c. search needs) returns-2)

@@ -1,0 +1,36 @@
+use Rattle.controller.specs.Calls.{triggerCall}
+use Rattle.reu.proofs.Families.{change-refused, change-done, long}
+use borrow.Author.Needs.{needs}
+use Rattle.reu.proofs.reu_trigger_ff00.Statement.{statement}
+use Rattle.reu.proofs.reu_trigger_ff00.Tie as tie
+
+returns : tie.Need-returns
+returns c =
+    let its-if1 = c .before .if1 in
+    let its-open = c .before .before .«open» in
+    let its-args = c .before .before .before .before .before .args in
+    change-refused (its-args .image .now) (its-open .result) (its-open .ensures) (its-if1 .taken) _
+    (c .refused .ensures) triggerCall
+
+finish-requires : tie.Need-finish-requires
+finish-requires c κs =
+    let its-if1 = c .before .before .before .if1 in
+    let its-open = c .before .before .before .before .«open» in
+    let its-args = c .before .before .before .before .before .before .before .args in
+    long (its-args .image .now) (its-open .result) (its-open .ensures) (its-if1 .left)
+
+returns-2 : tie.Need-returns-2
+returns-2 c =
+    let its-finish = c .before .before .finish in
+    let its-trigger-ff00 = c .before .before .before .before .trigger-ff00 in
+    let its-if1 = c .before .before .before .before .before .before .if1 in
+    let its-open = c .before .before .before .before .before .before .before .«open» in
+    let its-args = c .before .before .before .before .before .before .before .before .before .before .args in
+    change-done (its-args .image .now) (its-open .result) (its-open .ensures) (its-if1 .left) triggerCall _ _
+    (its-trigger-ff00 .ensures) (its-finish .ensures)
+
+pub reu-trigger-ff00-spec : {M : Type 1} → statement M
+reu-trigger-ff00-spec =
+    tie.close
+    (tie.spec (λ c κs. search needs) (λ c κs. search needs) (λ c. search needs) returns (λ c κs. search needs)
+    finish-requires (λ c. search needs) returns-2)
