@@ -10,6 +10,8 @@ use controller::Reu;
 // An answer is this times the refusal number, plus a value.
 const REFUSAL_UNIT: u32 = 16_777_216;
 
+const ACCEPTED: u8 = 0;
+
 // A refusal's number as it is answered.
 fn refused(number: u8) -> u32
     ensures { λ r. ⌜ r ≡ refusal number ⌝ }
@@ -21,7 +23,7 @@ fn refused(number: u8) -> u32
 fn code_of(answer: Answer) -> u32
     ensures { λ r. ⌜ r ≡ code answer ⌝ }
 {
-    if answer.refusal != 0 {
+    if answer.refusal != ACCEPTED {
         return refused(answer.refusal);
     }
     answer.value
@@ -32,7 +34,7 @@ fn finish(image: &mut [u8], answer: Answer) -> u32
     requires { ⌜ length (now image) ≡ imageSize ⌝ }
     ensures { λ r. ⌜ (r, now (image .exit)) ≡ changed answer (now (image .entry)) ⌝ }
 {
-    if answer.refusal != 0 {
+    if answer.refusal != ACCEPTED {
         return refused(answer.refusal);
     }
     let reu = answer.reu;
@@ -57,7 +59,7 @@ pub extern "C" fn reu_reset(image: &mut [u8], hard_reset: u32) -> u32
 {
     let opened = image::open(image);
     let refusal = opened.refusal;
-    if refusal != 0 {
+    if refusal != ACCEPTED {
         return refused(refusal);
     }
     let reu = opened.reu;
@@ -71,7 +73,7 @@ pub extern "C" fn reu_set_enabled(image: &mut [u8], storage: &mut [u8], enabled:
 {
     let opened = image::open(image);
     let refusal = opened.refusal;
-    if refusal != 0 {
+    if refusal != ACCEPTED {
         return refused(refusal);
     }
     let reu = opened.reu;
@@ -85,7 +87,7 @@ pub extern "C" fn reu_storage_present(image: &[u8]) -> u32
 {
     let opened = image::open(image);
     let refusal = opened.refusal;
-    if refusal != 0 {
+    if refusal != ACCEPTED {
         return refused(refusal);
     }
     let reu = opened.reu;
@@ -98,7 +100,7 @@ pub extern "C" fn reu_capacity_bytes(image: &[u8]) -> u32
 {
     let opened = image::open(image);
     let refusal = opened.refusal;
-    if refusal != 0 {
+    if refusal != ACCEPTED {
         return refused(refusal);
     }
     let reu = opened.reu;
@@ -111,7 +113,7 @@ pub extern "C" fn reu_trigger_ff00(image: &mut [u8]) -> u32
 {
     let opened = image::open(image);
     let refusal = opened.refusal;
-    if refusal != 0 {
+    if refusal != ACCEPTED {
         return refused(refusal);
     }
     let reu = opened.reu;
@@ -125,7 +127,7 @@ pub extern "C" fn reu_read(image: &mut [u8], addr: u16) -> u32
 {
     let opened = image::open(image);
     let refusal = opened.refusal;
-    if refusal != 0 {
+    if refusal != ACCEPTED {
         return refused(refusal);
     }
     let reu = opened.reu;
@@ -139,7 +141,7 @@ pub extern "C" fn reu_write(image: &mut [u8], addr: u16, value: u8) -> u32
 {
     let opened = image::open(image);
     let refusal = opened.refusal;
-    if refusal != 0 {
+    if refusal != ACCEPTED {
         return refused(refusal);
     }
     let reu = opened.reu;
@@ -153,7 +155,7 @@ pub extern "C" fn reu_dma_active(image: &[u8]) -> u32
 {
     let opened = image::open(image);
     let refusal = opened.refusal;
-    if refusal != 0 {
+    if refusal != ACCEPTED {
         return refused(refusal);
     }
     let reu = opened.reu;
@@ -172,7 +174,7 @@ pub extern "C" fn reu_bus_action(
 {
     let opened = image::open(image);
     let refusal = opened.refusal;
-    if refusal != 0 {
+    if refusal != ACCEPTED {
         return refused(refusal);
     }
     let reu = opened.reu;
@@ -186,7 +188,7 @@ pub extern "C" fn reu_cpu_ready_after_dma(image: &mut [u8], ba_high: u32) -> u32
 {
     let opened = image::open(image);
     let refusal = opened.refusal;
-    if refusal != 0 {
+    if refusal != ACCEPTED {
         return refused(refusal);
     }
     let reu = opened.reu;
@@ -200,7 +202,7 @@ pub extern "C" fn reu_debug_register(image: &[u8], index: u64) -> u32
 {
     let opened = image::open(image);
     let refusal = opened.refusal;
-    if refusal != 0 {
+    if refusal != ACCEPTED {
         return refused(refusal);
     }
     let reu = opened.reu;
@@ -213,7 +215,7 @@ pub extern "C" fn reu_c64_access(image: &[u8]) -> u32
 {
     let opened = image::open(image);
     let refusal = opened.refusal;
-    if refusal != 0 {
+    if refusal != ACCEPTED {
         return refused(refusal);
     }
     let reu = opened.reu;
@@ -232,7 +234,7 @@ pub extern "C" fn reu_tick_dma(
 {
     let opened = image::open(image);
     let refusal = opened.refusal;
-    if refusal != 0 {
+    if refusal != ACCEPTED {
         return refused(refusal);
     }
     let reu = opened.reu;
@@ -254,7 +256,7 @@ pub extern "C" fn reu_run_reu_cycle(
 {
     let opened = image::open(image);
     let refusal = opened.refusal;
-    if refusal != 0 {
+    if refusal != ACCEPTED {
         return refused(refusal);
     }
     let reu = opened.reu;

@@ -1,0 +1,241 @@
+/*
+ * A test host in C: a store, a swap, a start by FF00, and a saved machine that is written to a file and opened again.
+ * It checks every result, says what it did, and answers 0 if all was as expected.
+ *
+ *   cc -Iinclude examples/host.c target/staticlib/libreu.a -o host && ./host
+ *
+ * The saved machine goes to the file named by the first argument, or to machine.reu, and is removed at the end.
+ */
+#include <stdio.h>
+#include <stdlib.h>
+#include <string.h>
+
+#include "reu.h"
+
+/* The three buffers that a host lends, and its clock. */
+struct machine {
+    uint8_t *image;
+    uint8_t *bus;
+    uint8_t *storage;
+    uint64_t cycle;
+};
+
+static int failures;
+
+/* Every check of this program. */
+static void expect(const char *what, unsigned long got, unsigned long wanted) {
+    if (got != wanted) {
+        printf("  WRONG: %s is $%lX, expected $%lX\n", what, got, wanted);
+        failures++;
+    }
+}
+
+/* The value of an answer that must have been accepted. */
+static uint32_t accepted(const char *what, uint32_t answer) {
+    expect(what, reu_refusal(answer), REU_ACCEPTED);
+    return reu_value(answer);
+}
+
+static uint8_t *buffer(size_t length) {
+    uint8_t *bytes = (uint8_t *)malloc(length);
+    if (bytes == NULL) {
+        fprintf(stderr, "no memory\n");
+        exit(2);
+    }
+    return bytes;
+}
+
+/* Buffers with nothing in them yet. */
+static struct machine machine_empty(void) {
+    struct machine m;
+    m.image = buffer(REU_IMAGE_SIZE);
+    m.bus = buffer(REU_BUS_SIZE);
+    m.storage = buffer(REU_STORAGE_SIZE);
+    m.cycle = 0;
+    return m;
+}
+
+static struct machine machine_new(void) {
+    struct machine m = machine_empty();
+    memset(m.bus, 0, REU_BUS_SIZE);
+    accepted("new", reu_new(m.image, REU_IMAGE_SIZE));
+    accepted("enable", reu_set_enabled(m.image, REU_IMAGE_SIZE, m.storage, REU_STORAGE_SIZE, 1));
+    expect("capacity", accepted("capacity_bytes", reu_capacity_bytes(m.image, REU_IMAGE_SIZE)), REU_STORAGE_SIZE);
+    return m;
+}
+
+static void machine_free(struct machine *m) {
+    free(m->image);
+    free(m->bus);
+    free(m->storage);
+}
+
+static void write_register(struct machine *m, int index, unsigned value) {
+    accepted("write", reu_write(m->image, REU_IMAGE_SIZE, (uint16_t)(0xDF00 + index), (uint8_t)value));
+}
+
+static uint32_t register_held(const struct machine *m, int index) {
+    return accepted("debug_register", reu_debug_register(m->image, REU_IMAGE_SIZE, (uint64_t)index));
+}
+
+/* Addresses, length and COMMAND, as a program on the C64 would write them. */
+static void command(struct machine *m, unsigned c64, unsigned long expansion, unsigned length, unsigned value) {
+    write_register(m, REU_C64_ADDRESS_LOW, c64 & 0xFF);
+    write_register(m, REU_C64_ADDRESS_HIGH, c64 >> 8);
+    write_register(m, REU_EXPANSION_ADDRESS_LOW, expansion & 0xFF);
+    write_register(m, REU_EXPANSION_ADDRESS_HIGH, (expansion >> 8) & 0xFF);
+    write_register(m, REU_EXPANSION_ADDRESS_BANK, (expansion >> 16) & 0xFF);
+    write_register(m, REU_TRANSFER_LENGTH_LOW, length & 0xFF);
+    write_register(m, REU_TRANSFER_LENGTH_HIGH, length >> 8);
+    write_register(m, REU_COMMAND, value);
+}
+
+/* One bus cycle with BA high. Answers 1 if the controller had it. */
+static uint32_t run_cycle(struct machine *m) {
+    return accepted("run_reu_cycle", reu_run_reu_cycle(m->image, REU_IMAGE_SIZE, m->bus, REU_BUS_SIZE, m->storage,
+                                                       REU_STORAGE_SIZE, 1, m->cycle++, 0, 1));
+}
+
+/* Cycles until the CPU has the bus again, but at most 100. Answers how many the controller had. */
+static unsigned run_to_end(struct machine *m) {
+    unsigned cycles = 0;
+    while (cycles < 100 && run_cycle(m)) {
+        cycles++;
+    }
+    return cycles;
+}
+
+static void store(struct machine *m) {
+    printf("store: 5 bytes from $1000 to expansion $010000\n");
+    memcpy(m->bus + 0x1000, "HELLO", 5);
+    command(m, 0x1000, 0x010000, 5, REU_STORE | REU_COMMAND_FF00_DISABLE | REU_COMMAND_EXECUTE);
+    uint32_t access = reu_c64_access(m->image, REU_IMAGE_SIZE);
+    expect("kind of access", reu_access_kind(access), REU_ACCESS_READ);
+    expect("address of access", reu_access_address(access), 0x1000);
+    unsigned cycles = run_to_end(m);
+    expect("cycles", cycles, 5);
+    expect("bytes differ", memcmp(m->storage + 0x010000, "HELLO", 5) != 0, 0);
+    expect("STATUS", register_held(m, REU_STATUS), REU_STATUS_VERSION | REU_STATUS_END_OF_BLOCK);
+    expect("C64 address low", register_held(m, REU_C64_ADDRESS_LOW), 0x05);
+    printf("  %u cycles, storage holds %.5s\n", cycles, (const char *)(m->storage + 0x010000));
+}
+
+static void swap(struct machine *m) {
+    printf("swap: 5 bytes at $2000 with expansion $010000, Autoload, interrupt at the end\n");
+    memcpy(m->bus + 0x2000, "WORLD", 5);
+    write_register(m, REU_INTERRUPT_MASK, REU_INTERRUPT_GLOBAL_ENABLE | REU_INTERRUPT_END_OF_BLOCK_ENABLE);
+    command(m, 0x2000, 0x010000, 5,
+            REU_SWAP | REU_COMMAND_FF00_DISABLE | REU_COMMAND_AUTOLOAD | REU_COMMAND_EXECUTE);
+    expect("level while it runs", reu_interrupt_level(m->image), 0);
+    unsigned cycles = run_to_end(m);
+    expect("cycles", cycles, 10);
+    expect("bus differs", memcmp(m->bus + 0x2000, "HELLO", 5) != 0, 0);
+    expect("storage differs", memcmp(m->storage + 0x010000, "WORLD", 5) != 0, 0);
+    expect("C64 address low", register_held(m, REU_C64_ADDRESS_LOW), 0x00);
+    expect("length", register_held(m, REU_TRANSFER_LENGTH_LOW), 5);
+    expect("level at the end", reu_interrupt_level(m->image), 1);
+    expect("STATUS", accepted("read", reu_read(m->image, REU_IMAGE_SIZE, 0xDF00 + REU_STATUS)), 0xD0);
+    expect("level after STATUS was read", reu_interrupt_level(m->image), 0);
+    expect("ready with BA low", accepted("ready", reu_cpu_ready_after_dma(m->image, REU_IMAGE_SIZE, 0)), 1);
+    expect("ready once more", accepted("ready", reu_cpu_ready_after_dma(m->image, REU_IMAGE_SIZE, 0)), 0);
+    printf("  %u cycles, bus holds %.5s, storage %.5s, the registers are restored\n", cycles,
+           (const char *)(m->bus + 0x2000), (const char *)(m->storage + 0x010000));
+}
+
+static void start_by_ff00(struct machine *m) {
+    printf("FF00: a recall of 5 bytes to $3000 waits for the access to $FF00\n");
+    command(m, 0x3000, 0x010000, 5, REU_RECALL | REU_COMMAND_EXECUTE);
+    expect("cycles before FF00", run_to_end(m), 0);
+    expect("byte before FF00", m->bus[0x3000], 0);
+    accepted("trigger_ff00", reu_trigger_ff00(m->image, REU_IMAGE_SIZE));
+    expect("active", accepted("dma_active", reu_dma_active(m->image, REU_IMAGE_SIZE)), 1);
+    unsigned cycles = run_to_end(m);
+    expect("cycles", cycles, 5);
+    expect("bus differs", memcmp(m->bus + 0x3000, "WORLD", 5) != 0, 0);
+    printf("  %u cycles, bus holds %.5s\n", cycles, (const char *)(m->bus + 0x3000));
+}
+
+static int machine_equal(const struct machine *a, const struct machine *b) {
+    return memcmp(a->image, b->image, REU_IMAGE_SIZE) == 0 && memcmp(a->bus, b->bus, REU_BUS_SIZE) == 0 &&
+           memcmp(a->storage, b->storage, REU_STORAGE_SIZE) == 0;
+}
+
+static void machine_save(const struct machine *m, const char *path) {
+    FILE *file = fopen(path, "wb");
+    int saved = file != NULL && fwrite(m->image, REU_IMAGE_SIZE, 1, file) == 1 &&
+                fwrite(m->bus, REU_BUS_SIZE, 1, file) == 1 && fwrite(m->storage, REU_STORAGE_SIZE, 1, file) == 1;
+    if (file == NULL || fclose(file) != 0 || !saved) {
+        perror(path);
+        exit(2);
+    }
+}
+
+static struct machine machine_open(const char *path, uint64_t cycle) {
+    struct machine m = machine_empty();
+    FILE *file = fopen(path, "rb");
+    int opened = file != NULL && fread(m.image, REU_IMAGE_SIZE, 1, file) == 1 &&
+                 fread(m.bus, REU_BUS_SIZE, 1, file) == 1 && fread(m.storage, REU_STORAGE_SIZE, 1, file) == 1;
+    if (file == NULL || fclose(file) != 0 || !opened) {
+        perror(path);
+        exit(2);
+    }
+    m.cycle = cycle;
+    return m;
+}
+
+static void save_and_open(struct machine *m, const char *path) {
+    printf("saved machine: written in the middle of a swap, opened again, both run to the end\n");
+    command(m, 0x2000, 0x010000, 5, REU_SWAP | REU_COMMAND_FF00_DISABLE | REU_COMMAND_EXECUTE);
+    for (int i = 0; i < 3; i++) {
+        expect("cycle", run_cycle(m), 1);
+    }
+    machine_save(m, path);
+    struct machine opened = machine_open(path, m->cycle);
+    remove(path);
+    expect("equal when opened", (unsigned long)machine_equal(m, &opened), 1);
+    expect("cycles of the first", run_to_end(m), 7);
+    expect("equal when only one went on", (unsigned long)machine_equal(m, &opened), 0);
+    expect("cycles of the opened", run_to_end(&opened), 7);
+    expect("equal at the end", (unsigned long)machine_equal(m, &opened), 1);
+    printf("  both ended with the same %d + %d + %d bytes\n", REU_IMAGE_SIZE, REU_BUS_SIZE, REU_STORAGE_SIZE);
+    machine_free(&opened);
+}
+
+/* Refused calls, null pointers with length 0 among them: the right number, and nothing changed. */
+static void refusals(struct machine *m) {
+    struct machine before = machine_empty();
+    memcpy(before.image, m->image, REU_IMAGE_SIZE);
+    memcpy(before.bus, m->bus, REU_BUS_SIZE);
+    memcpy(before.storage, m->storage, REU_STORAGE_SIZE);
+    printf("refusals: no image, a broken image, no bus, no storage\n");
+    expect("new, null", reu_refusal(reu_new(NULL, 0)), REU_REFUSED_IMAGE_LENGTH);
+    expect("read, null", reu_refusal(reu_read(NULL, 0, 0xDF00)), REU_REFUSED_IMAGE_LENGTH);
+    expect("dma_active, null", reu_refusal(reu_dma_active(NULL, 0)), REU_REFUSED_IMAGE_LENGTH);
+    expect("all null", reu_run_reu_cycle(NULL, 0, NULL, 0, NULL, 0, 1, 0, 0, 1), 16777216ul);
+    expect("null bus and storage",
+           reu_refusal(reu_tick_dma(m->image, REU_IMAGE_SIZE, NULL, 0, NULL, 0, m->cycle, 0)), REU_REFUSED_BUS_LENGTH);
+    expect("null storage",
+           reu_refusal(reu_bus_action(m->image, REU_IMAGE_SIZE, NULL, 0, 1, 1, m->cycle)), REU_REFUSED_STORAGE_LENGTH);
+    expect("short image", reu_refusal(reu_reset(m->image, REU_IMAGE_SIZE - 1, 0)), REU_REFUSED_IMAGE_LENGTH);
+    m->image[REU_IMAGE_DELAY] ^= 3;
+    expect("delay 3", reu_refusal(reu_write(m->image, REU_IMAGE_SIZE, 0xDF02, 1)), REU_REFUSED_IMAGE_FIELD);
+    m->image[REU_IMAGE_DELAY] ^= 3;
+    expect("unchanged", (unsigned long)machine_equal(m, &before), 1);
+    machine_free(&before);
+}
+
+int main(int argc, char **argv) {
+    struct machine m = machine_new();
+    store(&m);
+    swap(&m);
+    start_by_ff00(&m);
+    save_and_open(&m, argc > 1 ? argv[1] : "machine.reu");
+    refusals(&m);
+    machine_free(&m);
+    if (failures != 0) {
+        printf("%d results were wrong\n", failures);
+        return 1;
+    }
+    printf("all as expected\n");
+    return 0;
+}

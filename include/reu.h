@@ -1,0 +1,312 @@
+/*
+ * reu.h: the MOS 8726 RAM expansion controller (REU) with 512 KiB, bus cycle by bus cycle.
+ *
+ * The library is a port of the controller of the Breadbin466 emulator (MIT licence, see NOTICE) and answers as it does.
+ * It allocates nothing and keeps nothing between calls: everything stands in three buffers of the host.
+ *
+ *   image    34 bytes       the whole controller: registers, flags and the running transfer
+ *   bus      65,536 bytes   the memory that the controller sees as the C64's
+ *   storage  524,288 bytes  the expansion memory
+ *
+ * A store of one byte, from $1000 to expansion address 0:
+ *
+ *   reu_new(image, REU_IMAGE_SIZE);
+ *   reu_set_enabled(image, REU_IMAGE_SIZE, storage, REU_STORAGE_SIZE, 1);
+ *   reu_write(image, REU_IMAGE_SIZE, 0xDF00 + REU_C64_ADDRESS_HIGH, 0x10);
+ *   reu_write(image, REU_IMAGE_SIZE, 0xDF00 + REU_TRANSFER_LENGTH_LOW, 1);
+ *   reu_write(image, REU_IMAGE_SIZE, 0xDF00 + REU_TRANSFER_LENGTH_HIGH, 0);
+ *   reu_write(image, REU_IMAGE_SIZE, 0xDF00 + REU_COMMAND, REU_STORE | REU_COMMAND_FF00_DISABLE | REU_COMMAND_EXECUTE);
+ *   reu_run_reu_cycle(image, REU_IMAGE_SIZE, bus, REU_BUS_SIZE, storage, REU_STORAGE_SIZE, 1, cycle, 0, 1);
+ *
+ * ANSWERS AND REFUSALS
+ * Each call answers 16,777,216 times a refusal number plus a value; reu_refusal() and reu_value() take it apart.
+ * Refusal 0 means that the call was accepted. A refused call has value 0 and changes no byte of any buffer.
+ * The tests come in this order, each only where the call takes that buffer:
+ *
+ *   1  the image's length is not 34
+ *   2  the image has a field that no controller can have (see THE IMAGE); reu_new() does not test this
+ *   3  the bus's length is not 65,536
+ *   4  the storage's length is not 524,288
+ *
+ * Nothing else is refused: every address, byte, index, cycle number and flag is accepted. An image made by reu_new()
+ * and changed only by these calls is never refused. Where nothing else is said below, the value is 0.
+ *
+ * WHAT THE HOST MUST KEEP
+ * - Each pointer is valid for the length given beside it, for writing too where it is not const.
+ * - The buffers of one call do not overlap.
+ * - While a call runs, nobody else uses its buffers. Calls on different buffers may run at the same time.
+ * A null pointer with length 0 is allowed: it is a buffer of the wrong length, and refused.
+ *
+ * ARGUMENTS OF SEVERAL CALLS
+ * Flags are 32 bits wide: 0 is false, every other number is true.
+ * addr          a register's address; the index of the register is addr AND $1F
+ * cycle         the number of the bus cycle; only whether it is odd matters
+ * ba_high_phi1  true if the VIC's BA is high at PHI1 of this cycle: the input that holds a transfer
+ * ba_high       true if BA is high in this cycle; false beside a true ba_high_phi1 means that BA falls late in it
+ * ba_low        true if the VIC has BA low; matters only in the tick that ends a swap (see reu_cpu_ready_after_dma)
+ *
+ * LEFT TO THE HOST
+ * Address map, VIC and cartridges, and the enabled flag: no call obeys it. A host passes register accesses on only
+ * while the controller is enabled.
+ */
+#ifndef REU_H
+#define REU_H
+
+#include <stddef.h>
+#include <stdint.h>
+
+#ifdef __cplusplus
+extern "C" {
+#endif
+
+#define REU_VERSION "0.1.0"
+
+/* Lengths of the buffers. */
+#define REU_IMAGE_SIZE 34
+#define REU_BUS_SIZE 65536
+#define REU_STORAGE_SIZE 524288
+
+/* Refusals. */
+#define REU_ACCEPTED 0
+#define REU_REFUSED_IMAGE_LENGTH 1
+#define REU_REFUSED_IMAGE_FIELD 2
+#define REU_REFUSED_BUS_LENGTH 3
+#define REU_REFUSED_STORAGE_LENGTH 4
+
+/* Grants: the value of reu_bus_action(). */
+#define REU_GRANT_CPU 0
+#define REU_GRANT_HOLD 1
+#define REU_GRANT_TRANSFER 2
+
+/* Kinds of access: the value of reu_c64_access(), divided by 65,536. */
+#define REU_ACCESS_NONE 0
+#define REU_ACCESS_READ 1
+#define REU_ACCESS_WRITE 2
+
+/* Registers, by index. The C64 has register 0 at $DF00. */
+#define REU_REGISTER_COUNT 11
+#define REU_STATUS 0
+#define REU_COMMAND 1
+#define REU_C64_ADDRESS_LOW 2
+#define REU_C64_ADDRESS_HIGH 3
+#define REU_EXPANSION_ADDRESS_LOW 4
+#define REU_EXPANSION_ADDRESS_HIGH 5
+#define REU_EXPANSION_ADDRESS_BANK 6
+#define REU_TRANSFER_LENGTH_LOW 7
+#define REU_TRANSFER_LENGTH_HIGH 8
+#define REU_INTERRUPT_MASK 9
+#define REU_ADDRESS_CONTROL 10
+
+/* STATUS. */
+#define REU_STATUS_VERSION 0x10
+#define REU_STATUS_VERIFY_ERROR 0x20
+#define REU_STATUS_END_OF_BLOCK 0x40
+#define REU_STATUS_IRQ_PENDING 0x80
+
+/* COMMAND: a transfer type in bits 0 and 1, and these bits. With FF00_DISABLE it starts at once. */
+#define REU_STORE 0
+#define REU_RECALL 1
+#define REU_SWAP 2
+#define REU_VERIFY 3
+#define REU_COMMAND_FF00_DISABLE 0x10
+#define REU_COMMAND_AUTOLOAD 0x20
+#define REU_COMMAND_EXECUTE 0x80
+
+/* Interrupt mask. */
+#define REU_INTERRUPT_VERIFY_ENABLE 0x20
+#define REU_INTERRUPT_END_OF_BLOCK_ENABLE 0x40
+#define REU_INTERRUPT_GLOBAL_ENABLE 0x80
+
+/* Address control. */
+#define REU_ADDRESS_CONTROL_FIX_EXPANSION 0x40
+#define REU_ADDRESS_CONTROL_FIX_C64 0x80
+
+/*
+ * THE IMAGE
+ * An image may be copied, kept in a file and compared byte by byte: two accepted images are equal exactly if their
+ * controllers are. An image, a bus and a storage together are a saved machine. Numbers of more than one byte have their
+ * low byte first. Registers and shadows may have any value; the other fields are refused (2) outside the values given,
+ * and so are a transfer while the storage is not attached, a write phase without swap, and a verify tail without verify
+ * or with a remaining length other than 1. Without a transfer all bytes from REU_IMAGE_TYPE on are 0.
+ */
+#define REU_IMAGE_REGISTERS 0            /* 11 bytes, by index, as held */
+#define REU_IMAGE_SHADOW_C64 11          /* 2 bytes: what Autoload restores */
+#define REU_IMAGE_SHADOW_EXPANSION 13    /* 3 bytes */
+#define REU_IMAGE_SHADOW_LENGTH 16       /* 2 bytes */
+#define REU_IMAGE_FLAGS 18               /* REU_FLAG_ENABLED to REU_FLAG_LATE_FALL */
+#define REU_IMAGE_MORE_FLAGS 19          /* REU_FLAG_REFRESH and REU_FLAG_RELEASE; no other bit */
+#define REU_IMAGE_DELAY 20               /* 0 to 2 */
+#define REU_IMAGE_TRANSFER 21            /* 1: a transfer is running; else 0 */
+#define REU_IMAGE_TYPE 22                /* REU_STORE to REU_VERIFY */
+#define REU_IMAGE_PHASE 23               /* 0 read, 1 write */
+#define REU_IMAGE_C64_ADDRESS 24         /* 2 bytes */
+#define REU_IMAGE_EXPANSION_ADDRESS 26   /* 3 bytes */
+#define REU_IMAGE_REMAINING 29           /* 3 bytes: 1 to 65,536 */
+#define REU_IMAGE_LATCH 32               /* any byte */
+#define REU_IMAGE_TRANSFER_FLAGS 33      /* REU_TRANSFER_FIX_C64 to REU_TRANSFER_TAIL; no other bit */
+
+/* Byte REU_IMAGE_FLAGS. */
+#define REU_FLAG_ENABLED 0x01
+#define REU_FLAG_INTERRUPT 0x02
+#define REU_FLAG_ATTACHED 0x04
+#define REU_FLAG_ARMED 0x08
+#define REU_FLAG_BA_WAS_HIGH 0x10
+#define REU_FLAG_RECALL_REPEAT 0x20
+#define REU_FLAG_TERMINAL_WRITE 0x40
+#define REU_FLAG_LATE_FALL 0x80
+
+/* Byte REU_IMAGE_MORE_FLAGS. */
+#define REU_FLAG_REFRESH 0x01
+#define REU_FLAG_RELEASE 0x02
+
+/* Byte REU_IMAGE_TRANSFER_FLAGS. */
+#define REU_TRANSFER_FIX_C64 0x01
+#define REU_TRANSFER_FIX_EXPANSION 0x02
+#define REU_TRANSFER_AUTOLOAD 0x04
+#define REU_TRANSFER_FIRST_BYTE 0x08
+#define REU_TRANSFER_ODD_PARITY 0x10
+#define REU_TRANSFER_TAIL 0x20
+
+/* The refusal of an answer: REU_ACCEPTED, or one of REU_REFUSED_... */
+static inline uint32_t reu_refusal(uint32_t answer) {
+    return answer >> 24;
+}
+
+/* The value of an answer: 0 if it was refused. */
+static inline uint32_t reu_value(uint32_t answer) {
+    return answer & 0xFFFFFFu;
+}
+
+/* The kind of an accepted answer of reu_c64_access(): REU_ACCESS_NONE, REU_ACCESS_READ or REU_ACCESS_WRITE. */
+static inline uint32_t reu_access_kind(uint32_t answer) {
+    return reu_value(answer) >> 16;
+}
+
+/* The address of an accepted answer of reu_c64_access(); 0 if there is no access. */
+static inline uint32_t reu_access_address(uint32_t answer) {
+    return answer & 0xFFFFu;
+}
+
+/* The interrupt level of an image of REU_IMAGE_SIZE bytes: 1 while the controller asks for an interrupt, else 0. */
+static inline uint32_t reu_interrupt_level(const uint8_t *image) {
+    return (image[REU_IMAGE_FLAGS] & REU_FLAG_INTERRUPT) != 0 ? 1u : 0u;
+}
+
+/* ---- a controller and its storage ---- */
+
+/*
+ * Makes a new controller: disabled, no storage attached, idle, BA was high. Whatever the image held is gone.
+ * Refuses 1 only.
+ */
+uint32_t reu_new(uint8_t *image, size_t image_len);
+
+/*
+ * Resets the controller: all is as after reu_new(), but enabled, attached and the storage are kept.
+ * hard_reset makes no difference. Refuses 1, 2.
+ */
+uint32_t reu_reset(uint8_t *image, size_t image_len, uint32_t hard_reset);
+
+/*
+ * Enables or disables the controller. The first enabling attaches the storage and sets every byte of it to 0; later
+ * ones leave it as it is. Disabling drops the transfer and clears what a start clears (see reu_write), lowers the
+ * interrupt level, and keeps the registers and the storage. Refuses 1, 2, 4.
+ */
+uint32_t reu_set_enabled(uint8_t *image, size_t image_len, uint8_t *storage, size_t storage_len, uint32_t enabled);
+
+/* Answers 1 if the storage is attached, else 0. Refuses 1, 2. */
+uint32_t reu_storage_present(const uint8_t *image, size_t image_len);
+
+/* Answers 524,288 if the storage is attached, else 0. Refuses 1, 2. */
+uint32_t reu_capacity_bytes(const uint8_t *image, size_t image_len);
+
+/* ---- registers ---- */
+
+/*
+ * Reads a register as the CPU does and answers its byte. Index 11 to 31 gives $FF.
+ * Reading STATUS answers the byte as it was, then clears its bits 5, 6 and 7 and lowers the interrupt level.
+ * The bank reads OR $F8, the interrupt mask OR $1F, address control OR $3F. Refuses 1, 2.
+ */
+uint32_t reu_read(uint8_t *image, size_t image_len, uint16_t addr);
+
+/*
+ * Writes a register as the CPU does. STATUS and index 11 to 31 ignore it.
+ * - COMMAND drops an armed trigger; then, if bit 7 is set, it starts the transfer (bit 4 set) or arms the trigger
+ *   (bit 4 clear). It does not stop a running transfer unless it starts another.
+ * - A start clears armed, recall repeat, terminal write, delay, refresh and release. Without an attached storage it
+ *   then clears bit 7 of COMMAND, and that is all. With one, STATUS keeps only bit 4, the interrupt level falls, and
+ *   the transfer begins with the addresses and the length that the registers show (length 0 means 65,536).
+ * - The low or high byte of an address or of the length changes the shadow, and both bytes are shown from the shadow.
+ *   The bank changes itself and its shadow, and is stored OR $F8.
+ * - The interrupt mask is stored OR $1F. An event that STATUS shows raises the interrupt if the mask now lets it.
+ * - Address control is stored OR $3F.
+ * Refuses 1, 2.
+ */
+uint32_t reu_write(uint8_t *image, size_t image_len, uint16_t addr, uint8_t value);
+
+/*
+ * Answers the byte that the controller holds in a register, without the effects of a read: nothing is cleared, and the
+ * bank is what is held. The index is not folded: 11 and above give $FF. Refuses 1, 2.
+ */
+uint32_t reu_debug_register(const uint8_t *image, size_t image_len, uint64_t index);
+
+/*
+ * The CPU has made the access to $FF00: starts the transfer if it is armed and COMMAND still has bit 7; otherwise
+ * nothing happens. Refuses 1, 2.
+ */
+uint32_t reu_trigger_ff00(uint8_t *image, size_t image_len);
+
+/* ---- bus cycles ---- */
+
+/*
+ * Runs one bus cycle: decides as reu_bus_action() and, on Transfer, does what reu_tick_dma() does.
+ * Answers 0 if the CPU has this cycle, 1 if the controller keeps the CPU from it (Hold or Transfer).
+ * A host calls it once in each cycle. Refuses 1, 2, 3, 4.
+ */
+uint32_t reu_run_reu_cycle(uint8_t *image, size_t image_len, uint8_t *bus, size_t bus_len, uint8_t *storage,
+                           size_t storage_len, uint32_t ba_high, uint64_t cycle, uint32_t ba_low,
+                           uint32_t ba_high_phi1);
+
+/*
+ * Decides who has this cycle, the first half of reu_run_reu_cycle(). As a rule: REU_GRANT_CPU without a transfer,
+ * REU_GRANT_HOLD with one while ba_high_phi1 is false, else REU_GRANT_TRANSFER. Where BA has just fallen or risen in a
+ * swap or a recall it may decide otherwise, as the original does, and a swap may give the storage its byte back.
+ * It keeps track of BA, so it is asked once in a cycle. Refuses 1, 2, 4.
+ */
+uint32_t reu_bus_action(uint8_t *image, size_t image_len, uint8_t *storage, size_t storage_len, uint32_t ba_high,
+                        uint32_t ba_high_phi1, uint64_t cycle);
+
+/*
+ * Advances the transfer by one granted cycle, the second half of reu_run_reu_cycle(): store, recall and verify take one
+ * tick a byte, swap two or, if BA interrupts it, more. Without a transfer nothing happens.
+ * - After each byte the addresses step up unless fixed, C64 from $FFFF to 0, expansion from $FFFFFF to 0, and the
+ *   length steps down to 1, where it stays; the registers show them. The expansion address modulo 524,288 is the place
+ *   in the storage.
+ * - A byte that differs in a verify sets bit 5 of STATUS and ends the command. If it was the last but one, one more
+ *   tick compares the last byte before the end, moves no counter, and sets bit 6 exactly if it is equal.
+ * - The end of the block sets bit 6 of STATUS. A command that ends clears bit 7 of COMMAND and sets its bit 4, restores
+ *   addresses and length from the shadows if it started with Autoload, and raises the interrupt if the mask lets it.
+ * Answers 1 if a transfer is running afterwards, else 0. Refuses 1, 2, 3, 4.
+ */
+uint32_t reu_tick_dma(uint8_t *image, size_t image_len, uint8_t *bus, size_t bus_len, uint8_t *storage,
+                      size_t storage_len, uint64_t cycle, uint32_t ba_low);
+
+/* Answers 1 while a transfer is running, else 0. Refuses 1, 2. */
+uint32_t reu_dma_active(const uint8_t *image, size_t image_len);
+
+/*
+ * Answers what the next tick does on the C64's side: 65,536 times the kind, plus the address. reu_access_kind() and
+ * reu_access_address() take it apart. Refuses 1, 2.
+ */
+uint32_t reu_c64_access(const uint8_t *image, size_t image_len);
+
+/*
+ * May the CPU go on after a transfer? Answers 1 if BA is high or the release flag is set, else 0, and clears the flag.
+ * Only a swap that ends its block in a tick with ba_low 0 sets the flag. Refuses 1, 2.
+ */
+uint32_t reu_cpu_ready_after_dma(uint8_t *image, size_t image_len, uint32_t ba_high);
+
+#ifdef __cplusplus
+}
+#endif
+
+#endif

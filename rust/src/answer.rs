@@ -1,0 +1,97 @@
+//! What the calls answer, as types.
+
+use crate::constants::*;
+use std::{error, fmt};
+
+/// Why a call was refused. A refused call has changed nothing.
+///
+/// The library tests in this order, each only where the call takes that buffer.
+#[derive(Clone, Copy, Debug, PartialEq, Eq)]
+pub enum Refusal {
+    /// 1: the image's length is not 34.
+    ImageLength,
+    /// 2: the image has a field that no controller can have.
+    ImageField,
+    /// 3: the bus's length is not 65,536.
+    BusLength,
+    /// 4: the storage's length is not 524,288.
+    StorageLength,
+}
+
+impl Refusal {
+    /// The library's number of this refusal.
+    pub fn number(self) -> u32 {
+        match self {
+            Refusal::ImageLength => REFUSED_IMAGE_LENGTH,
+            Refusal::ImageField => REFUSED_IMAGE_FIELD,
+            Refusal::BusLength => REFUSED_BUS_LENGTH,
+            Refusal::StorageLength => REFUSED_STORAGE_LENGTH,
+        }
+    }
+}
+
+impl fmt::Display for Refusal {
+    fn fmt(&self, f: &mut fmt::Formatter<'_>) -> fmt::Result {
+        match self {
+            Refusal::ImageLength => write!(f, "an image has {IMAGE_SIZE} bytes"),
+            Refusal::ImageField => write!(f, "the image has a field that no controller can have"),
+            Refusal::BusLength => write!(f, "a bus has {BUS_SIZE} bytes"),
+            Refusal::StorageLength => write!(f, "a storage has {STORAGE_SIZE} bytes"),
+        }
+    }
+}
+
+impl error::Error for Refusal {}
+
+/// Who has a bus cycle.
+#[derive(Clone, Copy, Debug, PartialEq, Eq)]
+pub enum Grant {
+    /// The CPU.
+    Cpu,
+    /// Nobody moves a byte: the CPU is held, and so is the transfer.
+    Hold,
+    /// The transfer.
+    Transfer,
+}
+
+/// What the next tick does on the C64's side.
+#[derive(Clone, Copy, Debug, PartialEq, Eq)]
+pub enum Access {
+    /// Nothing: no transfer is running.
+    None,
+    /// It reads this address.
+    Read(u16),
+    /// It writes this address.
+    Write(u16),
+}
+
+/// Takes an answer apart: 16,777,216 times the refusal, plus the value.
+pub(crate) fn split(answer: u32) -> Result<u32, Refusal> {
+    match answer >> 24 {
+        ACCEPTED => Ok(answer & 0xFF_FFFF),
+        REFUSED_IMAGE_LENGTH => Err(Refusal::ImageLength),
+        REFUSED_IMAGE_FIELD => Err(Refusal::ImageField),
+        REFUSED_BUS_LENGTH => Err(Refusal::BusLength),
+        REFUSED_STORAGE_LENGTH => Err(Refusal::StorageLength),
+        other => unreachable!("the library has no refusal {other}"),
+    }
+}
+
+pub(crate) fn grant(value: u32) -> Grant {
+    match value {
+        GRANT_CPU => Grant::Cpu,
+        GRANT_HOLD => Grant::Hold,
+        GRANT_TRANSFER => Grant::Transfer,
+        other => unreachable!("the library has no grant {other}"),
+    }
+}
+
+pub(crate) fn access(value: u32) -> Access {
+    let address = (value & 0xFFFF) as u16;
+    match value >> 16 {
+        ACCESS_NONE => Access::None,
+        ACCESS_READ => Access::Read(address),
+        ACCESS_WRITE => Access::Write(address),
+        other => unreachable!("the library has no access {other}"),
+    }
+}

@@ -1,0 +1,187 @@
+//! The numbers of `include/reu.h` under the same names, without the prefix `REU_`.
+
+// Lengths of the buffers.
+
+/// Bytes of an image.
+pub const IMAGE_SIZE: usize = 34;
+/// Bytes of a bus.
+pub const BUS_SIZE: usize = 65536;
+/// Bytes of a storage.
+pub const STORAGE_SIZE: usize = 524288;
+
+// Refusals: an answer's bits from 24 on.
+
+/// Not refused.
+pub const ACCEPTED: u32 = 0;
+/// The image's length is not 34.
+pub const REFUSED_IMAGE_LENGTH: u32 = 1;
+/// The image has a field that no controller can have.
+pub const REFUSED_IMAGE_FIELD: u32 = 2;
+/// The bus's length is not 65,536.
+pub const REFUSED_BUS_LENGTH: u32 = 3;
+/// The storage's length is not 524,288.
+pub const REFUSED_STORAGE_LENGTH: u32 = 4;
+
+// Grants: the value of `bus_action`.
+
+/// The CPU has the cycle.
+pub const GRANT_CPU: u32 = 0;
+/// Nobody moves a byte: the CPU is held, and BA holds the transfer.
+pub const GRANT_HOLD: u32 = 1;
+/// The transfer has the cycle.
+pub const GRANT_TRANSFER: u32 = 2;
+
+// Kinds of access: the value of `c64_access`, divided by 65,536.
+
+/// No transfer is running.
+pub const ACCESS_NONE: u32 = 0;
+/// The next tick reads the bus.
+pub const ACCESS_READ: u32 = 1;
+/// The next tick writes the bus.
+pub const ACCESS_WRITE: u32 = 2;
+
+// Registers, by index.
+
+/// How many there are.
+pub const REGISTER_COUNT: usize = 11;
+
+/// What happened.
+pub const STATUS: u16 = 0;
+/// Type and start of a transfer.
+pub const COMMAND: u16 = 1;
+/// Bits 0 to 7 of the C64 address.
+pub const C64_ADDRESS_LOW: u16 = 2;
+/// Bits 8 to 15 of the C64 address.
+pub const C64_ADDRESS_HIGH: u16 = 3;
+/// Bits 0 to 7 of the expansion address.
+pub const EXPANSION_ADDRESS_LOW: u16 = 4;
+/// Bits 8 to 15 of the expansion address.
+pub const EXPANSION_ADDRESS_HIGH: u16 = 5;
+/// Bits 16 to 23 of the expansion address.
+pub const EXPANSION_ADDRESS_BANK: u16 = 6;
+/// Bits 0 to 7 of the length.
+pub const TRANSFER_LENGTH_LOW: u16 = 7;
+/// Bits 8 to 15 of the length.
+pub const TRANSFER_LENGTH_HIGH: u16 = 8;
+/// Which events raise the interrupt.
+pub const INTERRUPT_MASK: u16 = 9;
+/// Which addresses are fixed.
+pub const ADDRESS_CONTROL: u16 = 10;
+
+// Bits of STATUS.
+
+/// Version mark.
+pub const STATUS_VERSION: u8 = 0x10;
+/// A byte differed.
+pub const STATUS_VERIFY_ERROR: u8 = 0x20;
+/// The block ended.
+pub const STATUS_END_OF_BLOCK: u8 = 0x40;
+/// Interrupt.
+pub const STATUS_IRQ_PENDING: u8 = 0x80;
+
+// COMMAND: a transfer type in bits 0 and 1, and these bits.
+
+/// From the C64 to the storage.
+pub const STORE: u8 = 0;
+/// From the storage to the C64.
+pub const RECALL: u8 = 1;
+/// Exchange.
+pub const SWAP: u8 = 2;
+/// Comparison.
+pub const VERIFY: u8 = 3;
+/// Start at once, without FF00.
+pub const COMMAND_FF00_DISABLE: u8 = 0x10;
+/// Restore addresses and length at the end.
+pub const COMMAND_AUTOLOAD: u8 = 0x20;
+/// Start, or wait for FF00.
+pub const COMMAND_EXECUTE: u8 = 0x80;
+
+// Bits of the interrupt mask.
+
+/// Let a verify error interrupt.
+pub const INTERRUPT_VERIFY_ENABLE: u8 = 0x20;
+/// Let the end of a block interrupt.
+pub const INTERRUPT_END_OF_BLOCK_ENABLE: u8 = 0x40;
+/// Let anything interrupt.
+pub const INTERRUPT_GLOBAL_ENABLE: u8 = 0x80;
+
+// Bits of address control.
+
+/// The expansion address does not step.
+pub const ADDRESS_CONTROL_FIX_EXPANSION: u8 = 0x40;
+/// The C64 address does not step.
+pub const ADDRESS_CONTROL_FIX_C64: u8 = 0x80;
+
+// Places in an image; numbers of more than one byte have their low byte first.
+
+/// 11 bytes, by index, as held.
+pub const IMAGE_REGISTERS: usize = 0;
+/// 2 bytes: what Autoload restores.
+pub const IMAGE_SHADOW_C64: usize = 11;
+/// 3 bytes.
+pub const IMAGE_SHADOW_EXPANSION: usize = 13;
+/// 2 bytes.
+pub const IMAGE_SHADOW_LENGTH: usize = 16;
+/// `FLAG_ENABLED` to `FLAG_LATE_FALL`.
+pub const IMAGE_FLAGS: usize = 18;
+/// `FLAG_REFRESH` and `FLAG_RELEASE`; no other bit.
+pub const IMAGE_MORE_FLAGS: usize = 19;
+/// 0 to 2.
+pub const IMAGE_DELAY: usize = 20;
+/// 1: a transfer is running; else 0.
+pub const IMAGE_TRANSFER: usize = 21;
+/// `STORE` to `VERIFY`.
+pub const IMAGE_TYPE: usize = 22;
+/// 0 read, 1 write.
+pub const IMAGE_PHASE: usize = 23;
+/// 2 bytes.
+pub const IMAGE_C64_ADDRESS: usize = 24;
+/// 3 bytes.
+pub const IMAGE_EXPANSION_ADDRESS: usize = 26;
+/// 3 bytes: 1 to 65,536.
+pub const IMAGE_REMAINING: usize = 29;
+/// Any byte.
+pub const IMAGE_LATCH: usize = 32;
+/// `TRANSFER_FIX_C64` to `TRANSFER_TAIL`; no other bit.
+pub const IMAGE_TRANSFER_FLAGS: usize = 33;
+
+// Bits of the byte at `IMAGE_FLAGS`.
+
+/// The host has enabled the controller.
+pub const FLAG_ENABLED: u8 = 0x01;
+/// The interrupt level.
+pub const FLAG_INTERRUPT: u8 = 0x02;
+/// The storage is attached.
+pub const FLAG_ATTACHED: u8 = 0x04;
+/// A command waits for FF00.
+pub const FLAG_ARMED: u8 = 0x08;
+/// BA at PHI1 of the cycle before.
+pub const FLAG_BA_WAS_HIGH: u8 = 0x10;
+/// The second byte of a recall repeats the first.
+pub const FLAG_RECALL_REPEAT: u8 = 0x20;
+/// The next cycle is granted: a swap's terminal pair.
+pub const FLAG_TERMINAL_WRITE: u8 = 0x40;
+/// BA fell late in the cycle before.
+pub const FLAG_LATE_FALL: u8 = 0x80;
+
+// Bits of the byte at `IMAGE_MORE_FLAGS`.
+
+/// The next tick reads a swap's byte again.
+pub const FLAG_REFRESH: u8 = 0x01;
+/// The CPU may go on even with BA low, once.
+pub const FLAG_RELEASE: u8 = 0x02;
+
+// Bits of the byte at `IMAGE_TRANSFER_FLAGS`.
+
+/// The C64 address does not step.
+pub const TRANSFER_FIX_C64: u8 = 0x01;
+/// The expansion address does not step.
+pub const TRANSFER_FIX_EXPANSION: u8 = 0x02;
+/// Autoload at the end.
+pub const TRANSFER_AUTOLOAD: u8 = 0x04;
+/// No byte is complete yet.
+pub const TRANSFER_FIRST_BYTE: u8 = 0x08;
+/// A swap's byte was read in an odd cycle.
+pub const TRANSFER_ODD_PARITY: u8 = 0x10;
+/// One comparison is left of a verify.
+pub const TRANSFER_TAIL: u8 = 0x20;

@@ -1,0 +1,220 @@
+//! A machine: image, bus and storage together.
+
+use crate::answer::{Access, Grant, Refusal};
+use crate::calls::{self, Answer};
+use crate::constants::*;
+
+/// A controller with its bus and its storage.
+///
+/// Its buffers have the right lengths and its image is one that the library accepts, so none of its calls is refused.
+/// Only [`Machine::open`], which takes bytes from outside, can be.
+///
+/// Two machines are equal exactly if every byte of image, bus and storage is.
+#[derive(Clone, PartialEq, Eq)]
+pub struct Machine {
+    image: [u8; IMAGE_SIZE],
+    bus: Box<[u8]>,
+    storage: Box<[u8]>,
+}
+
+/// The value of a call on a machine. See [`Machine`] for why it is there.
+fn accepted<T>(answer: Answer<T>) -> T {
+    answer.expect("a machine's image is accepted and its buffers have the right lengths")
+}
+
+impl Default for Machine {
+    fn default() -> Self {
+        Machine::new()
+    }
+}
+
+impl std::fmt::Debug for Machine {
+    /// The image; bus and storage would fill pages.
+    fn fmt(&self, f: &mut std::fmt::Formatter<'_>) -> std::fmt::Result {
+        f.debug_struct("Machine").field("image", &self.image).finish_non_exhaustive()
+    }
+}
+
+impl Machine {
+    /// A new controller, disabled and with no storage attached; bus and storage are all 0.
+    pub fn new() -> Self {
+        let mut image = [0; IMAGE_SIZE];
+        accepted(calls::new(&mut image));
+        Machine { image, bus: vec![0; BUS_SIZE].into(), storage: vec![0; STORAGE_SIZE].into() }
+    }
+
+    /// Opens a saved machine. Bytes that are no machine are refused.
+    ///
+    /// ```
+    /// use reu::{Machine, Refusal};
+    ///
+    /// let machine = Machine::new();
+    /// let mut image = machine.image().to_vec();
+    /// let opened = Machine::open(&image, machine.bus(), machine.storage())?;
+    /// assert!(opened == machine);
+    ///
+    /// image[reu::IMAGE_DELAY] = 3; // a delay is 0, 1 or 2
+    /// let refused = Machine::open(&image, machine.bus(), machine.storage());
+    /// assert_eq!(refused.unwrap_err(), Refusal::ImageField);
+    /// # Ok::<(), Refusal>(())
+    /// ```
+    pub fn open(image: &[u8], bus: &[u8], storage: &[u8]) -> Answer<Self> {
+        calls::dma_active(image)?; // tests the image and changes nothing
+        if bus.len() != BUS_SIZE {
+            return Err(Refusal::BusLength);
+        }
+        if storage.len() != STORAGE_SIZE {
+            return Err(Refusal::StorageLength);
+        }
+        let image = image.try_into().map_err(|_| Refusal::ImageLength)?;
+        Ok(Machine { image, bus: bus.into(), storage: storage.into() })
+    }
+
+    /// The controller, as it is saved.
+    pub fn image(&self) -> &[u8; IMAGE_SIZE] {
+        &self.image
+    }
+
+    /// The memory that the controller sees as the C64's.
+    pub fn bus(&self) -> &[u8] {
+        &self.bus
+    }
+
+    /// The same, for the host to write.
+    pub fn bus_mut(&mut self) -> &mut [u8] {
+        &mut self.bus
+    }
+
+    /// The expansion memory.
+    pub fn storage(&self) -> &[u8] {
+        &self.storage
+    }
+
+    /// The same, for the host to write.
+    pub fn storage_mut(&mut self) -> &mut [u8] {
+        &mut self.storage
+    }
+
+    /// The registers as the controller holds them, by index: what `debug_register` gives.
+    pub fn registers(&self) -> &[u8] {
+        &self.image[IMAGE_REGISTERS..IMAGE_REGISTERS + REGISTER_COUNT]
+    }
+
+    /// Whether the controller asks for an interrupt.
+    pub fn interrupt_level(&self) -> bool {
+        self.image[IMAGE_FLAGS] & FLAG_INTERRUPT != 0
+    }
+
+    /// Resets the controller; enabled, attached and the storage are kept. `hard_reset` makes no difference.
+    pub fn reset(&mut self, hard_reset: bool) {
+        accepted(calls::reset(&mut self.image, hard_reset));
+    }
+
+    /// Enables or disables the controller. The first enabling attaches the storage and sets every byte of it to 0.
+    pub fn set_enabled(&mut self, enabled: bool) {
+        accepted(calls::set_enabled(&mut self.image, &mut self.storage, enabled));
+    }
+
+    /// Whether the storage is attached.
+    pub fn storage_present(&self) -> bool {
+        accepted(calls::storage_present(&self.image))
+    }
+
+    /// 524,288 if the storage is attached, else 0.
+    pub fn capacity_bytes(&self) -> usize {
+        accepted(calls::capacity_bytes(&self.image))
+    }
+
+    /// The CPU has made the access to $FF00: an armed transfer starts.
+    ///
+    /// ```
+    /// let mut machine = reu::Machine::new();
+    /// machine.set_enabled(true);
+    /// machine.write(0xDF01, reu::RECALL | reu::COMMAND_EXECUTE);
+    /// assert!(!machine.dma_active());
+    /// machine.trigger_ff00();
+    /// assert!(machine.dma_active());
+    /// ```
+    pub fn trigger_ff00(&mut self) {
+        accepted(calls::trigger_ff00(&mut self.image));
+    }
+
+    /// Reads a register as the CPU does; the index is the address AND $1F, and 11 to 31 gives $FF.
+    /// Reading STATUS clears its bits 5 to 7 and lowers the interrupt level.
+    pub fn read(&mut self, addr: u16) -> u8 {
+        accepted(calls::read(&mut self.image, addr))
+    }
+
+    /// Writes a register as the CPU does; COMMAND starts or arms a transfer.
+    pub fn write(&mut self, addr: u16, value: u8) {
+        accepted(calls::write(&mut self.image, addr, value));
+    }
+
+    /// Whether a transfer is running.
+    pub fn dma_active(&self) -> bool {
+        accepted(calls::dma_active(&self.image))
+    }
+
+    /// Decides who has this cycle, the first half of [`Machine::run_reu_cycle`]; to be asked once in a cycle.
+    ///
+    /// ```
+    /// use reu::Grant;
+    ///
+    /// let mut machine = reu::Machine::new();
+    /// machine.set_enabled(true);
+    /// assert_eq!(machine.bus_action(true, true, 0), Grant::Cpu);
+    /// machine.write(0xDF01, reu::STORE | reu::COMMAND_FF00_DISABLE | reu::COMMAND_EXECUTE);
+    /// assert_eq!(machine.bus_action(true, true, 1), Grant::Transfer);
+    /// assert_eq!(machine.bus_action(false, false, 2), Grant::Hold);
+    /// ```
+    pub fn bus_action(&mut self, ba_high: bool, ba_high_phi1: bool, cycle: u64) -> Grant {
+        accepted(calls::bus_action(&mut self.image, &mut self.storage, ba_high, ba_high_phi1, cycle))
+    }
+
+    /// Whether the CPU may go on after a transfer: BA is high or the release flag is set. Clears the flag.
+    pub fn cpu_ready_after_dma(&mut self, ba_high: bool) -> bool {
+        accepted(calls::cpu_ready_after_dma(&mut self.image, ba_high))
+    }
+
+    /// The byte held in a register, without the effects of a read; $FF from index 11 on.
+    pub fn debug_register(&self, index: u64) -> u8 {
+        accepted(calls::debug_register(&self.image, index))
+    }
+
+    /// What the next tick does on the C64's side.
+    ///
+    /// ```
+    /// use reu::Access;
+    ///
+    /// let mut machine = reu::Machine::new();
+    /// machine.set_enabled(true);
+    /// assert_eq!(machine.c64_access(), Access::None);
+    /// machine.write(0xDF03, 0xC0);
+    /// machine.write(0xDF01, reu::RECALL | reu::COMMAND_FF00_DISABLE | reu::COMMAND_EXECUTE);
+    /// assert_eq!(machine.c64_access(), Access::Write(0xC000));
+    /// ```
+    pub fn c64_access(&self) -> Access {
+        accepted(calls::c64_access(&self.image))
+    }
+
+    /// Advances the transfer by one granted cycle, the second half of [`Machine::run_reu_cycle`].
+    /// Answers whether one is running afterwards.
+    pub fn tick_dma(&mut self, cycle: u64, ba_low: bool) -> bool {
+        accepted(calls::tick_dma(&mut self.image, &mut self.bus, &mut self.storage, cycle, ba_low))
+    }
+
+    /// Runs one bus cycle. Answers whether the controller keeps the CPU from it.
+    ///
+    /// Of `cycle` only whether it is odd matters, and `ba_low` only in the cycle that ends a swap.
+    pub fn run_reu_cycle(&mut self, ba_high: bool, cycle: u64, ba_low: bool, ba_high_phi1: bool) -> bool {
+        accepted(calls::run_reu_cycle(
+            &mut self.image,
+            &mut self.bus,
+            &mut self.storage,
+            ba_high,
+            cycle,
+            ba_low,
+            ba_high_phi1,
+        ))
+    }
+}
