@@ -23,13 +23,16 @@ shown i v =
 abbrev pub acknowledged : Reu → Reu
 acknowledged u = withIrq (setReg u status (clearBits (verifyError ∷ endOfBlock ∷ interrupt ∷ []) (reg u status))) false
 
-unfoldable pub readRegister : Reu → ℕ → ReadAnswer
-readRegister u addr =
-    cond (ltb (registerIndex addr) registerCount)
-    (cond (eqb (registerIndex addr) status)
+abbrev pub readAt : Reu → ℕ → ReadAnswer
+readAt u i =
+    cond (ltb i registerCount)
+    (cond (eqb i status)
     (record { value = reg u status; reu = acknowledged u })
-    (record { value = shown (registerIndex addr) (reg u (registerIndex addr)); reu = u }))
+    (record { value = shown i (reg u i); reu = u }))
     (record { value = unusedRegister; reu = u })
+
+unfoldable pub readRegister : Reu → ℕ → ReadAnswer
+readRegister u addr = readAt u (registerIndex addr)
 
 -- ---- write
 
@@ -59,9 +62,8 @@ writeBank u bank =
     withShadows (setReg u reuBank bank) (u .«shadow_c64_addr») (withBank (u .«shadow_reu_addr») bank) (u .«shadow_len»)
 
 -- "Mask is stored and read OR $1F, control OR $3F"; "Writes [of STATUS] are ignored"; "Index 11 to 31 .. ignores writes"
-unfoldable pub writeRegister : Reu → ℕ → ℕ → Reu
-writeRegister u addr v =
-    let i = registerIndex addr in
+abbrev pub writeAt : Reu → ℕ → ℕ → Reu
+writeAt u i v =
     cond (eqb i command) (writeCommand u v)
     (cond (eqb i c64Low) (writeC64 u (withLow (u .«shadow_c64_addr») v))
     (cond (eqb i c64High) (writeC64 u (withHigh (u .«shadow_c64_addr») v))
@@ -72,6 +74,9 @@ writeRegister u addr v =
     (cond (eqb i lengthHigh) (writeLen u (withHigh (u .«shadow_len») v))
     (cond (eqb i interruptMask) (updateIrq (setReg u interruptMask (setBits maskOnes v)))
     (cond (eqb i addressControl) (setReg u addressControl (setBits controlOnes v)) u)))))))))
+
+unfoldable pub writeRegister : Reu → ℕ → ℕ → Reu
+writeRegister u addr v = writeAt u (registerIndex addr) v
 
 -- ---- a look that changes nothing and folds no index
 

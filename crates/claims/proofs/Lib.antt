@@ -1,0 +1,15 @@
+pub mod Sound
+pub mod Valid
+pub mod Accepted
+pub mod States
+pub mod Walk
+pub mod SavedMachine
+pub mod CycleLaw
+pub mod RegisterLaw
+pub mod Exchange
+pub mod Look
+pub mod Swap
+pub mod Outcome
+pub mod SomeRuns
+pub mod SwapTwice
+pub mod Sessions

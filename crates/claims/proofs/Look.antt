@@ -1,0 +1,129 @@
+-- What the image's bytes and the answers of read and debug_register show of the controller.
+use Prim.Native.Nat.{ℕ, _/_, _%_, _<_}
+use mathlib.Core.Bool.{Bool, true, false, cond}
+use mathlib.Core.Path.{_≡_, refl, sym, ap, _∙_}
+use mathlib.Core.Logic.{inl, inr}
+use mathlib.Core.List.{List, _++_}
+use lib.ListN.{length, getD, List·getD-append}
+use lib.Seq.{getD-append-add, getD-take}
+use lib.Bits.{or-mod, or-zero-r, and-mask}
+use lib.Dec.{eqb}
+use native.Mathlib.Omega.{arith}
+use borrow.Author.Tests.{eq-eqb, ne-eqb, eqb-false, lt-ltb}
+use Rattle.controller.specs.declared.dma.Dma.{Dma}
+use Rattle.controller.specs.declared.dma.Dma.the-variants.{Idle, Running}
+use Rattle.controller.specs.Reu.{reg}
+use Rattle.controller.specs.Registers.{readAt, readRegister, debugRegister}
+use Rattle.image.specs.Layout.{packImage, reuAt, present, middleBytes, transferBytes}
+use Rattle.reu.specs.Exports.{reuDebugRegister}
+use Rattle.claims.specs.Calls.{Held}
+use Rattle.claims.specs.SwapTwice.{byte, Start, OfBlock, Shown, Ended}
+use Rattle.claims.proofs.Valid.{open-sound, pack-back}
+use Rattle.claims.proofs.Accepted.{read-is, debug-is}
+use Rattle.claims.proofs.States.{St, Good, held}
+use Rattle.claims.proofs.RegisterLaw.{Value, Seven, two, three, four, five, six, seven, eight, is-seven}
+
+-- a bit that is clear
+pub bit-clear : (q : ℕ) → eqb (q % 2) 1 ≡ false → q % 2 ≡ 0
+bit-clear q e = omega (arith, eqb-false (q % 2) 1 e)
+
+clear-bit : (q : ℕ) → q % 2 ≡ 0 → eqb (q % 2) 1 ≡ false
+clear-bit q e = ne-eqb (q % 2) 1 (λ o. omega arith)
+
+upper-bits : (v : ℕ) → v < 256 → v / 64 % 2 ≡ 0 → v / 128 % 2 ≡ 0 → v / 64 ≡ 0
+upper-bits v h a b =
+    let half : v / 128 ≡ v / 64 / 2 = omega arith in
+    two-bits (v / 64) (omega arith) a (ap (λ (q : ℕ). q % 2) (sym half) ∙ b)
+  where
+    two-bits : (q : ℕ) → q < 4 → q % 2 ≡ 0 → q / 2 % 2 ≡ 0 → q ≡ 0
+    two-bits q h a b = omega arith
+
+module _ (x : St) (g : Good x) where
+  regs-11 : length (x .u .regs) ≡ 11
+  regs-11 = g .sound .regs .len
+
+  pub reg-byte : (i : ℕ) → i < 11 → byte (held x) i ≡ reg (x .u) i
+  unfolding packImage
+  reg-byte i h = List·getD-append (x .u .regs) (middleBytes (x .u) ++ transferBytes (x .u .dma)) 0 i (omega (arith, regs-11))
+
+  pub present-byte : byte (held x) 21 ≡ present (x .u .dma)
+  unfolding packImage
+  present-byte =
+      ap (λ (i : ℕ). getD (packImage (x .u)) i 0) (omega (arith, regs-11))
+      ∙ getD-append-add (x .u .regs) (middleBytes (x .u) ++ transferBytes (x .u .dma)) 10 0
+
+  pub idle-byte : byte (held x) 21 ≡ 0 → x .u .dma ≡ Idle
+  idle-byte e = go (x .u .dma) (sym present-byte ∙ e)
+    where
+      go : (d : Dma) → present d ≡ 0 → d ≡ Idle
+      go Idle p = refl
+      go (Running d) p = absurd (omega arith)
+
+  -- bit 7 of COMMAND
+  pub ended-reg : Ended (held x) → reg (x .u) 1 / 128 % 2 ≡ 0
+  ended-reg e = bit-clear (reg (x .u) 1 / 128) (ap (λ (v : ℕ). eqb (v / 128 % 2) 1) (sym (reg-byte 1 (omega arith))) ∙ e)
+
+  pub reg-ended : reg (x .u) 1 / 128 % 2 ≡ 0 → Ended (held x)
+  reg-ended e = ap (λ (v : ℕ). eqb (v / 128 % 2) 1) (reg-byte 1 (omega arith)) ∙ clear-bit (reg (x .u) 1 / 128) e
+
+  -- the values shown of a register
+  read-shows : {r : ℕ} → Seven r → (v : ℕ) → v ≡ readAt (x .u) r .value → Value (reg (x .u)) r v
+  read-shows two v e = (ap (λ (y : ℕ). y % 8) e, λ ne. e)
+  read-shows three v e = (ap (λ (y : ℕ). y % 8) e, λ ne. e)
+  read-shows four v e = (ap (λ (y : ℕ). y % 8) e, λ ne. e)
+  read-shows five v e = (ap (λ (y : ℕ). y % 8) e, λ ne. e)
+  read-shows six v e = (ap (λ (y : ℕ). y % 8) e ∙ or-mod (reg (x .u) 6) 248 3 ∙ or-zero-r (reg (x .u) 6 % 8), λ ne. absurd (ne refl))
+  read-shows seven v e = (ap (λ (y : ℕ). y % 8) e, λ ne. e)
+  read-shows eight v e = (ap (λ (y : ℕ). y % 8) e, λ ne. e)
+
+  pub debug-value : (r : ℕ) → r < 11 → reuDebugRegister (packImage (x .u)) r ≡ reg (x .u) r
+  unfolding debugRegister
+  debug-value r h = debug-is (x .u) (g .sound) r ∙ ap (λ (b : Bool). cond b (reg (x .u) r) 255) (lt-ltb r 11 h)
+
+  pub shown-value : (r v : ℕ) → OfBlock r → Shown (held x) r v → Value (reg (x .u)) r v
+  unfolding readRegister
+  shown-value r v (lo, hi) (inl e) =
+      let small : r % 32 ≡ r = omega arith in
+      read-shows (is-seven r lo hi) v
+      (e ∙ ap (λ (y : ℕ × List ℕ). y .0) (read-is (x .u) (g .sound) r) ∙ ap (λ (i : ℕ). readAt (x .u) i .value) (and-mask r 5 ∙ small))
+  shown-value r v (lo, hi) (inr e) =
+      let z : v ≡ reg (x .u) r = e ∙ debug-value r (omega arith) in
+      (ap (λ (y : ℕ). y % 8) z, λ ne. z)
+
+-- ---- starts
+
+-- an idle controller that a command can start, no address fixed
+pub record Idling (x : St) : Type 0 where
+  pub idle : x .u .dma ≡ Idle
+  pub attached : x .u .attached ≡ true
+  pub free : reg (x .u) 10 / 64 ≡ 0
+
+abbrev pub opened : Held → St
+opened k = record { u = reuAt (k .image); m = k .bus; s = k .storage }
+
+module _ (k : Held) (st : Start k) where
+  pub opened-good : Good (opened k)
+  opened-good =
+      record {
+        sound = open-sound (k .image) (st .image-bytes) (st .accepted);
+        bus-bytes = st .memories .bus-bytes;
+        storage-bytes = st .memories .storage-bytes;
+        bus-size = st .memories .bus-size;
+        storage-size = st .memories .storage-size;
+      }
+
+  pub opened-is : held (opened k) ≡ k
+  opened-is = λ i. record { image = pack-back (k .image) (st .image-bytes) (st .accepted) i; bus = k .bus; storage = k .storage }
+
+  control : reg (reuAt (k .image)) 10 ≡ byte k 10
+  unfolding reuAt
+  control = getD-take 11 (k .image) 10 0 (omega arith)
+
+  unfixed : byte k 10 / 64 ≡ 0
+  unfixed =
+      upper-bits (byte k 10) (st .image-bytes .below 10) (bit-clear (byte k 10 / 64) (st .reu-unfixed)) (bit-clear (byte k 10 / 128) (st .c64-unfixed))
+
+  pub opened-idling : Idling (opened k)
+  unfolding reuAt
+  opened-idling =
+      record { idle = rw (eq-eqb (byte k 21) 0 (st .idle)); attached = st .attached; free = ap (λ (v : ℕ). v / 64) control ∙ unfixed }

@@ -1,0 +1,5 @@
+pub mod Constants
+pub mod Calls
+pub mod SwapTwice
+pub mod SavedMachine
+pub mod Sessions

@@ -1,0 +1,24 @@
+// The claims about whole runs of the exported calls. Each function does nothing: its `ensures` is the claim.
+ghost use Rattle.claims.specs.SavedMachine.{EveryStateOpens, RoundTrips};
+ghost use Rattle.claims.specs.Sessions.{Sessions};
+ghost use Rattle.claims.specs.SwapTwice.{SwapTwice};
+
+// Demand 3: a block swapped twice is back, and a run that stays idle ends with the same bytes.
+pub fn swap_twice()
+    ensures { λ r. ⌜ SwapTwice ⌝ }
+{}
+
+// Packing a controller and opening an image are each other's inverse.
+pub fn round_trips()
+    ensures { λ r. ⌜ RoundTrips ⌝ }
+{}
+
+// Every image that accepted calls reach from a new controller is accepted, and opens as the controller that it packs.
+pub fn every_state_opens()
+    ensures { λ r. ⌜ EveryStateOpens ⌝ }
+{}
+
+// The recorded sessions R1 to R14 and R16.
+pub fn recorded_sessions()
+    ensures { λ r. ⌜ Sessions ⌝ }
+{}
