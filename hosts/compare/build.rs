@@ -1,0 +1,98 @@
+#[path = "planted/table.rs"]
+mod table;
+#[path = "../original/text.rs"]
+mod text;
+
+use std::collections::HashMap;
+use std::env;
+use std::path::{Path, PathBuf};
+use table::{PLANTED, Planted};
+
+/// The modules that a copy has of its own; elsewhere `crate::` is this program.
+const OWN: [&str; 4] = ["memory", "vic", "reu", "machine"];
+const HOST: [&str; 5] = ["host/vic", "host/memory", "host/storage", "host/fields", "host/machine"];
+
+fn main() {
+    link_library();
+    match text::root() {
+        Ok(root) => {
+            println!("cargo::rustc-cfg=original");
+            text::write_out("copies.rs", &copies(&sources(&root)));
+        }
+        Err(missing) => println!("cargo::warning={missing}"),
+    }
+}
+
+/// Links libreu.a from REU_LIB_DIR, or from where `rt staticlib reu` leaves it.
+fn link_library() {
+    println!("cargo::rerun-if-env-changed=REU_LIB_DIR");
+    let folder = match env::var_os("REU_LIB_DIR") {
+        Some(named) => PathBuf::from(named),
+        None => text::manifest_folder().join("../../target/staticlib"),
+    };
+    println!("cargo::rerun-if-changed={}", folder.join("libreu.a").display());
+    if !folder.join("libreu.a").is_file() {
+        println!("cargo::error=no libreu.a in {}: run `rt staticlib reu`, or set REU_LIB_DIR", folder.display());
+    }
+    println!("cargo::rustc-link-search=native={}", folder.display());
+    println!("cargo::rustc-link-lib=static=reu");
+}
+
+/// Every text that a copy is made of, by name: the original's and what stands around it.
+fn sources(root: &Path) -> HashMap<&'static str, String> {
+    let here = text::manifest_folder();
+    let mut sources = HashMap::new();
+    for name in text::FILES {
+        sources.insert(name, text::read(&text::reu_file(root, name)));
+    }
+    for name in HOST {
+        sources.insert(name, text::read(&here.join("../original").join(name).with_extension("rs")));
+    }
+    sources.insert("run_reu_cycle", text::run_reu_cycle(root));
+    sources.insert("accepted", text::read(&here.join("src/accepted.rs")));
+    sources.insert("standin", text::read(&here.join("planted/standin.rs")));
+    sources
+}
+
+/// A text with a planted bug's edit; what it replaces must stand there exactly once.
+fn edited(sources: &HashMap<&'static str, String>, name: &str, planted: Option<&Planted>) -> String {
+    let text = sources[name].replace("//!", "//");
+    match planted.filter(|planted| planted.file == name) {
+        Some(Planted { name, file, old, new, .. }) => {
+            let times = text.matches(old).count();
+            assert!(times == 1, "planted bug '{name}': its text stands {times} times in {file}");
+            text.replace(old, new)
+        }
+        None => text,
+    }
+}
+
+/// One copy as a module: the original's modules, and the fifteen calls over them. A bug in the calls alone is over
+/// copy 0's modules.
+fn copy(sources: &HashMap<&'static str, String>, number: usize, planted: Option<&Planted>) -> String {
+    let body = |name: &str| edited(sources, name, planted);
+    let calls_alone = planted.is_some_and(|planted| planted.file == "accepted");
+    let modules = if calls_alone { String::new() } else { text::modules(&body, &body("run_reu_cycle")) };
+    let base = if calls_alone { 0 } else { number };
+    let mut text = format!(
+        "{modules}mod accepted {{\n{}\n}}\nmod standin {{\n{}\n}}\npub use standin::call;\n",
+        body("accepted"),
+        body("standin")
+    );
+    for module in OWN {
+        text = text.replace(&format!("crate::{module}::"), &format!("crate::copies::copy{base}::{module}::"));
+    }
+    format!("#[allow(warnings, clippy::all)]\nmod copy{number} {{\n{text}}}\n")
+}
+
+/// Copy 0 is as the original is; copy N has the Nth planted bug.
+fn copies(sources: &HashMap<&'static str, String>) -> String {
+    let mut text = copy(sources, 0, None);
+    let mut calls = String::from("copy0::call,");
+    for (at, planted) in PLANTED.iter().enumerate() {
+        assert!(sources.contains_key(planted.file), "planted bug '{}': no file {}", planted.name, planted.file);
+        text.push_str(&copy(sources, at + 1, Some(planted)));
+        calls.push_str(&format!(" copy{}::call,", at + 1));
+    }
+    format!("{text}pub const COPIES: [CallOn; {}] = [{calls}];\n", PLANTED.len() + 1)
+}

@@ -1,0 +1,164 @@
+//! Both sides through one list, compared after each step.
+
+use crate::calls::{Call, Step};
+use crate::generate::Generator;
+use crate::sides::{IMAGE, Image, Machine, places};
+
+/// The steps of a from-new list, the steps that follow each image of a from-image list, and those of a long list.
+const LIST: usize = 1500;
+const AFTER_IMAGE: usize = 12;
+const LONG_LIST: usize = 140_000;
+/// One list in so many is long.
+const LONG_EVERY: u64 = 400;
+/// Whole memories are compared at the end of a list and after so many steps.
+const WHOLE_EVERY: usize = 16_384;
+
+/// Two machines that must agree: the tried one and the one that is right.
+pub struct Pair<'a> {
+    pub tried: &'a mut dyn Machine,
+    pub right: &'a mut dyn Machine,
+}
+
+fn first_difference(tried: &[u8], right: &[u8]) -> Option<usize> {
+    if tried == right { None } else { tried.iter().zip(right).position(|(one, other)| one != other) }
+}
+
+fn differs(what: &str, at: usize, tried: u32, right: u32) -> String {
+    format!("{what} {at} is 0x{tried:02x}, the original's 0x{right:02x}")
+}
+
+impl Pair<'_> {
+    /// One step on both sides, and the comparison of everything but the memories' untouched bytes.
+    pub fn step(&mut self, step: Step) -> Result<(), String> {
+        let before = self.right.image();
+        let (answer, right_answer) = (self.tried.step(step), self.right.step(step));
+        if answer != right_answer {
+            let [answer, right_answer] = [answer, right_answer].map(Option::unwrap_or_default);
+            return Err(format!("the answer is {answer}, the original's {right_answer}"));
+        }
+        let (image, right_image) = (self.tried.image(), self.right.image());
+        if let Some(at) = first_difference(&image, &right_image) {
+            return Err(differs("image byte", at, image[at].into(), right_image[at].into()));
+        }
+        if self.tried.interrupt() != self.right.interrupt() {
+            return Err("the interrupt level differs".into());
+        }
+        if !self.tried.guards_hold() {
+            return Err("a byte beside a buffer has changed".into());
+        }
+        self.touched(&before)?;
+        self.touched(&image)
+    }
+
+    /// The two bytes that an image's transfer points at.
+    fn touched(&self, image: &Image) -> Result<(), String> {
+        let (addr, offset) = places(image);
+        let (byte, right) = (self.tried.bus()[addr], self.right.bus()[addr]);
+        if byte != right {
+            return Err(differs("bus byte", addr, byte.into(), right.into()));
+        }
+        let (byte, right) = (self.tried.storage()[offset], self.right.storage()[offset]);
+        if byte != right {
+            return Err(differs("storage byte", offset, byte.into(), right.into()));
+        }
+        Ok(())
+    }
+
+    /// Every byte of both memories.
+    pub fn whole(&self) -> Result<(), String> {
+        let memories = [
+            ("bus byte", self.tried.bus(), self.right.bus()),
+            ("storage byte", self.tried.storage(), self.right.storage()),
+        ];
+        for (what, tried, right) in memories {
+            if let Some(at) = first_difference(tried, right) {
+                return Err(differs(what, at, tried[at].into(), right[at].into()));
+            }
+        }
+        Ok(())
+    }
+
+    /// Runs a list; the first disagreement with the number of steps that were done until it was seen.
+    pub fn list(&mut self, steps: &[Step]) -> Result<(), (usize, String)> {
+        for (at, step) in steps.iter().enumerate() {
+            self.step(*step).map_err(|what| (at + 1, what))?;
+        }
+        self.whole().map_err(|what| (steps.len(), what))
+    }
+}
+
+/// A list on which the two sides disagree.
+pub struct Disagreement {
+    pub steps: Vec<Step>,
+    pub what: String,
+    pub seed: u64,
+}
+
+/// The seed of a run's list by its number.
+pub fn list_seed(seed: u64, list: u64) -> u64 {
+    seed.wrapping_mul(0x1_0000_0001).wrapping_add(list)
+}
+
+/// The random run: lists until so many calls are compared.
+pub struct Run {
+    pub calls: u64,
+    pub lists: u64,
+    seed: u64,
+}
+
+impl Run {
+    pub fn new(seed: u64) -> Self {
+        Self { calls: 0, lists: 0, seed }
+    }
+
+    /// Compares at least `calls` further calls.
+    pub fn compare(&mut self, pair: &mut Pair, calls: u64) -> Result<(), Box<Disagreement>> {
+        let end = self.calls + calls;
+        while self.calls < end {
+            let seed = list_seed(self.seed, self.lists);
+            let mut steps = Vec::new();
+            let done = self.list(pair, seed, &mut steps);
+            done.map_err(|what| Box::new(Disagreement { steps, what, seed }))?;
+            self.lists += 1;
+        }
+        Ok(())
+    }
+
+    /// One list: from new, with full lengths, or from any accepted images, by its number.
+    fn list(&mut self, pair: &mut Pair, seed: u64, steps: &mut Vec<Step>) -> Result<(), String> {
+        let long = self.lists % LONG_EVERY == LONG_EVERY / 2;
+        let images = !long && self.lists % 3 == 2;
+        let kind = (self.lists / LONG_EVERY % 4) as u8;
+        let mut generator = if long { Generator::long(seed, kind) } else { Generator::new(seed) };
+        let mut steps = Kept { steps, calls: &mut self.calls };
+        for start in [Step::Image([0; IMAGE]), Step::Memory(generator.seed()), Step::Call(Call::New)] {
+            steps.step(pair, start)?;
+        }
+        for at in 0..if long { LONG_LIST } else { LIST } {
+            let step = match images && at % AFTER_IMAGE == 0 {
+                true => Step::Image(generator.image()),
+                false if images => generator.anything(&pair.right.image()),
+                false => generator.next(&pair.right.image()),
+            };
+            steps.step(pair, step)?;
+            if at % WHOLE_EVERY == WHOLE_EVERY - 1 {
+                pair.whole()?;
+            }
+        }
+        pair.whole()
+    }
+}
+
+/// Keeps each step before it is done, and counts the calls among them.
+struct Kept<'a> {
+    steps: &'a mut Vec<Step>,
+    calls: &'a mut u64,
+}
+
+impl Kept<'_> {
+    fn step(&mut self, pair: &mut Pair, step: Step) -> Result<(), String> {
+        self.steps.push(step);
+        *self.calls += u64::from(matches!(step, Step::Call(_)));
+        pair.step(step)
+    }
+}

@@ -1,0 +1,288 @@
+//! Steps drawn at random, biased to where things go wrong.
+
+use crate::accepted::accepted;
+use crate::calls::{Call, NAMES, Step};
+use crate::rng::Rng;
+use crate::sides::{Image, places};
+
+/// How the BA inputs of a list move.
+#[derive(Clone, Copy)]
+enum Ba {
+    High,
+    /// The three inputs agree.
+    Together,
+    /// `ba_high_phi1` follows `ba_high` one cycle later, as a late fall has it.
+    Late,
+    /// Each input goes its own way.
+    Apart,
+}
+
+/// How lively a list is: one step in so many is something else than what its plan says.
+const QUIET: [usize; 4] = [4, 12, 40, 400];
+const FLAGS: [u32; 8] = [1, 2, 3, 0x80, 0x100, 0x1_0000, 0x8000_0000, u32::MAX];
+const LENGTHS: [u16; 18] = [1, 1, 1, 1, 2, 2, 2, 3, 3, 4, 5, 8, 17, 255, 256, 257, 0, 0xFFFF];
+const C64: [u16; 10] = [0x0000, 0x1000, 0x1000, 0x10FF, 0x2000, 0xFEFF, 0xFF00, 0xFFFD, 0xFFFE, 0xFFFF];
+const EXPANSION: [u32; 10] = [0, 0, 1, 0xFFFF, 0x7FFFE, 0x7FFFF, 0x80000, 0xF7FFFF, 0xFFFFFE, 0xFFFFFF];
+
+pub struct Generator {
+    rng: Rng,
+    plan: Vec<Step>,
+    ba: Ba,
+    levels: [bool; 3],
+    run: usize,
+    cycle: u64,
+    quiet: usize,
+    wild_flags: bool,
+    lengths: &'static [u16],
+    /// The type of every planned command, and that it starts at once; else each is drawn.
+    kind: Option<u8>,
+}
+
+impl Generator {
+    /// Lists of short commands.
+    pub fn new(seed: u64) -> Self {
+        let mut rng = Rng::new(seed);
+        let start = rng.word();
+        Self {
+            ba: rng.pick(&[Ba::High, Ba::Together, Ba::Late, Ba::Late, Ba::Apart]),
+            levels: [true; 3],
+            run: 0,
+            cycle: rng.pick(&[0, 1, start, u64::MAX - 300, u64::MAX, 1 << 32, 1 << 63]),
+            quiet: rng.pick(&QUIET),
+            wild_flags: rng.one_in(2),
+            lengths: &LENGTHS,
+            kind: None,
+            plan: Vec::new(),
+            rng,
+        }
+    }
+
+    /// Lists of commands of full length and one type, little disturbed.
+    pub fn long(seed: u64, kind: u8) -> Self {
+        let mut made = Self::new(seed);
+        made.quiet = 20_000;
+        made.lengths = &[0, 0, 0xFFFF];
+        made.kind = Some(kind);
+        made.ba = made.rng.pick(&[Ba::High, Ba::High, Ba::Together, Ba::Late]);
+        made
+    }
+
+    pub fn seed(&mut self) -> u64 {
+        self.rng.word()
+    }
+
+    /// A flag's number: 0 is false, and true has many.
+    fn flag(&mut self, set: bool) -> u32 {
+        match (set, self.wild_flags) {
+            (false, _) => 0,
+            (true, false) => 1,
+            (true, true) => self.rng.pick(&FLAGS),
+        }
+    }
+
+    fn any_flag(&mut self) -> u32 {
+        let set = self.rng.one_in(2);
+        self.flag(set)
+    }
+
+    /// Moves BA: runs of 1, 2, 3 and many.
+    fn move_ba(&mut self) {
+        let before = self.levels;
+        if self.run == 0 {
+            let many = 4 + self.rng.below(40);
+            self.run = self.rng.pick(&[1, 1, 2, 2, 3, many]);
+            self.levels[0] = !self.levels[0];
+        }
+        self.run -= 1;
+        let ba_high = self.levels[0];
+        self.levels = match self.ba {
+            Ba::High => [true; 3],
+            Ba::Together => [ba_high; 3],
+            Ba::Late => [ba_high, ba_high, before[0]],
+            Ba::Apart => [ba_high, self.rng.one_in(2), self.rng.one_in(2)],
+        };
+    }
+
+    fn next_cycle(&mut self) -> u64 {
+        let step = if self.rng.one_in(16) { self.rng.pick(&[0, 2, 5]) } else { 1 };
+        self.cycle = self.cycle.wrapping_add(step);
+        self.cycle
+    }
+
+    fn cycle_call(&mut self) -> Call {
+        self.move_ba();
+        let [high, not_low, phi1] = self.levels;
+        let (ba_high, ba_low, ba_high_phi1) = (self.flag(high), self.flag(!not_low), self.flag(phi1));
+        Call::RunReuCycle { ba_high, cycle: self.next_cycle(), ba_low, ba_high_phi1 }
+    }
+
+    fn addr(&mut self, index: u8) -> u16 {
+        let mirror = self.rng.pick(&[0xDF00, 0xDF00, 0xDF00, 0xDF20, 0xDFE0, 0, 0xFFE0]);
+        mirror + u16::from(index)
+    }
+
+    fn write(&mut self, index: u8, value: u8) -> Step {
+        Step::Call(Call::Write { addr: self.addr(index), value })
+    }
+
+    fn command(&mut self) -> u8 {
+        let value = self.rng.byte();
+        if let Some(kind) = self.kind {
+            return (value & 0x6C) | 0x90 | kind;
+        }
+        // Most commands execute, and most of those at once.
+        match self.rng.below(8) {
+            0 => value,
+            1 | 2 => (value & 0x6F) | 0x80,
+            _ => value | 0x90,
+        }
+    }
+
+    /// Plans a command: some or all registers in any order, COMMAND, and perhaps its trigger.
+    fn plan_command(&mut self) {
+        let any = self.rng.word();
+        let c64 = if self.rng.one_in(8) { any as u16 } else { self.rng.pick(&C64) }.to_le_bytes();
+        let expansion = if self.rng.one_in(8) { (any >> 16) as u32 } else { self.rng.pick(&EXPANSION) }.to_le_bytes();
+        let length = self.rng.pick(self.lengths).to_le_bytes();
+        let control = self.rng.pick(&[0, 0, 0, 0x40, 0x80, 0xC0, any as u8]);
+        let mask = self.rng.pick(&[0, 0x20, 0x40, 0xA0, 0xC0, 0xE0, any as u8]);
+        let [c64_low, c64_high] = c64;
+        let [low, high, bank, _] = expansion;
+        let values = [c64_low, c64_high, low, high, bank, length[0], length[1], mask, control];
+        let mut indexes = [2, 3, 4, 5, 6, 7, 8, 9, 10];
+        self.rng.shuffle(&mut indexes);
+        let skipped = if self.rng.one_in(3) { self.rng.below(9) } else { 0 };
+        let command = self.command();
+        if command & 0x10 == 0 {
+            self.plan.push(Step::Call(Call::TriggerFf00));
+        }
+        let start = self.write(1, command);
+        self.plan.push(start);
+        for index in &indexes[skipped..] {
+            let write = self.write(*index, values[usize::from(*index) - 2]);
+            self.plan.push(write);
+        }
+    }
+
+    /// A write to the byte under the running transfer, so that verify meets equal and different bytes.
+    fn touch_bus(&mut self, image: &Image) -> Step {
+        let ahead = self.rng.below(3) as u16;
+        let value = if self.rng.one_in(2) { 0 } else { self.rng.byte() };
+        Step::Bus((places(image).0 as u16).wrapping_add(ahead), value)
+    }
+
+    /// Any of the fifteen calls, or a byte of the bus.
+    pub fn anything(&mut self, image: &Image) -> Step {
+        let place = self.rng.below(NAMES.len() + 12);
+        match place {
+            0..=2 if self.rng.below(4) != 0 => Step::Call(self.cycle_call()),
+            0..15 => Step::Call(self.call(place)),
+            15..=16 => self.write_any(1),
+            17..=18 => self.write_any(9),
+            19..=20 => self.touch_bus(image),
+            21..=22 => Step::Call(Call::Read { addr: self.addr(0) }),
+            _ => Step::Call(self.cycle_call()),
+        }
+    }
+
+    fn write_any(&mut self, index: u8) -> Step {
+        let value = if index == 1 { self.command() } else { self.rng.byte() };
+        self.write(index, value)
+    }
+
+    /// The call at a place among the fifteen, with any arguments.
+    pub fn call(&mut self, place: usize) -> Call {
+        let index = self.rng.below(32) as u8;
+        let any = self.rng.word();
+        match NAMES[place] {
+            "new" => Call::New,
+            "reset" => Call::Reset { hard_reset: self.any_flag() },
+            "set_enabled" => Call::SetEnabled { enabled: self.any_flag() },
+            "storage_present" => Call::StoragePresent,
+            "capacity_bytes" => Call::CapacityBytes,
+            "trigger_ff00" => Call::TriggerFf00,
+            "read" => Call::Read { addr: if self.rng.one_in(8) { any as u16 } else { self.addr(index % 12) } },
+            "write" => {
+                let addr = if self.rng.one_in(8) { any as u16 } else { self.addr(index % 12) };
+                Call::Write { addr, value: self.rng.byte() }
+            }
+            "dma_active" => Call::DmaActive,
+            "cpu_ready_after_dma" => Call::CpuReadyAfterDma { ba_high: self.any_flag() },
+            "bus_action" => {
+                let (ba_high, ba_high_phi1) = (self.any_flag(), self.any_flag());
+                Call::BusAction { ba_high, ba_high_phi1, cycle: self.next_cycle() }
+            }
+            "debug_register" => {
+                let far = self.rng.pick(&[0, 0, 0, 0, 32, 256, 1 << 16, 1 << 32, 1 << 63]);
+                Call::DebugRegister { index: if self.rng.one_in(64) { any } else { far + u64::from(index) } }
+            }
+            "c64_access" => Call::C64Access,
+            "tick_dma" => Call::TickDma { cycle: self.next_cycle(), ba_low: self.any_flag() },
+            _ => {
+                let (ba_high, ba_low, ba_high_phi1) = (self.any_flag(), self.any_flag(), self.any_flag());
+                Call::RunReuCycle { ba_high, cycle: self.next_cycle(), ba_low, ba_high_phi1 }
+            }
+        }
+    }
+
+    /// The next step of a list whose controller is as this image has it.
+    pub fn next(&mut self, image: &Image) -> Step {
+        let (running, attached, armed) = (image[21] == 1, image[18] & 4 != 0, image[18] & 8 != 0);
+        if self.rng.one_in(self.quiet) {
+            return self.anything(image);
+        }
+        if let Some(step) = self.plan.pop() {
+            return step;
+        }
+        if armed && self.rng.one_in(4) {
+            return Step::Call(Call::TriggerFf00);
+        }
+        // Another command cuts in, and a short list does not wait for the end of a long transfer.
+        let cuts_in = running && self.rng.one_in(10 * self.quiet.max(20));
+        if !cuts_in && (running || self.rng.one_in(3)) {
+            return Step::Call(self.cycle_call());
+        }
+        if !attached && self.rng.below(8) != 0 {
+            return Step::Call(Call::SetEnabled { enabled: self.flag(true) });
+        }
+        self.plan_command();
+        self.plan.pop().expect("a command was planned")
+    }
+
+    /// Any image that is accepted, reached from new or not.
+    pub fn image(&mut self) -> Image {
+        let mut image = [0; 34];
+        image[..22].fill_with(|| self.rng.byte());
+        image[19] = self.rng.pick(&[0, 0, 0, 1, 2, 3]);
+        image[20] = self.rng.pick(&[0, 0, 0, 1, 2]);
+        image[21] = u8::from(self.rng.below(4) != 0);
+        if self.rng.one_in(2) {
+            image[18] &= 0x17;
+        }
+        if image[21] == 1 {
+            self.image_transfer(&mut image);
+        }
+        assert!(accepted(&image), "the generator makes accepted images: {image:?}");
+        image
+    }
+
+    /// Bytes 22 to 33, and the attached flag that they need.
+    fn image_transfer(&mut self, image: &mut Image) {
+        image[18] |= 4;
+        image[22] = self.rng.below(4) as u8;
+        image[23] = u8::from(image[22] == 2 && self.rng.one_in(2));
+        let any = self.rng.word();
+        let c64 = if self.rng.one_in(2) { any as u16 } else { self.rng.pick(&C64) };
+        let expansion = if self.rng.one_in(2) { (any >> 16) as u32 } else { self.rng.pick(&EXPANSION) };
+        let length = u32::from(self.rng.pick(&LENGTHS)).max(1);
+        let remaining = self.rng.pick(&[1, 1, 2, 2, 3, length, 65_535, 65_536, 1 + (any >> 48) as u32]);
+        image[24..26].copy_from_slice(&c64.to_le_bytes());
+        image[26..29].copy_from_slice(&expansion.to_le_bytes()[..3]);
+        image[29..32].copy_from_slice(&remaining.to_le_bytes()[..3]);
+        image[32] = self.rng.byte();
+        image[33] = self.rng.byte() & 0x1F;
+        if image[22] == 3 && remaining == 1 && self.rng.one_in(2) {
+            image[33] |= 0x20;
+        }
+    }
+}

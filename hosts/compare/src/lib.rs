@@ -1,0 +1,23 @@
+//! The differential run's parts. `main.rs` is the program, the README beside this folder says what it does.
+
+pub mod accepted;
+pub mod calls;
+pub mod compare;
+#[cfg(original)]
+pub mod copies;
+pub mod demand3;
+pub mod generate;
+#[cfg(original)]
+pub mod planted;
+pub mod port;
+pub mod record;
+#[cfg(original)]
+pub mod reference;
+pub mod refusals;
+pub mod rng;
+pub mod sessions;
+pub mod shrink;
+pub mod sides;
+
+/// The seed of a run that names none.
+pub const SEED: u64 = 8726;

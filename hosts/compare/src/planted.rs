@@ -1,0 +1,215 @@
+//! The proof that the run can fail: bugs planted in a stand-in for the library, each of which must be caught.
+
+#[path = "../planted/table.rs"]
+mod table;
+
+use crate::calls::Call;
+use crate::compare::{Pair, Run};
+use crate::copies::{COPIES, CallOn};
+use crate::reference::Original;
+use crate::refusals::Refusals;
+use crate::sides::{Held, IMAGE, Lent, Port, REFUSAL};
+use crate::{demand3, sessions};
+use std::panic::{AssertUnwindSafe, catch_unwind};
+use table::PLANTED;
+
+/// Calls that the random run has to catch a bug, and the runs of demand 3.
+const CALLS: u64 = 200_000;
+const DEMAND3_RUNS: u64 = 4;
+
+/// A stand-in for the library: the fifteen calls over a copy of the original.
+pub struct Standin(pub CallOn);
+
+impl Port for Standin {
+    fn call(&mut self, call: Call, lent: Lent) -> u32 {
+        (self.0)(call, lent)
+    }
+}
+
+/// What a bug must break, where document 01 says so.
+#[derive(Clone, Copy)]
+pub enum Breaks {
+    Anything,
+    Session(usize),
+    Midway,
+}
+
+/// A bug by name, what it must break, and its stand-in.
+pub type Bug = (&'static str, Breaks, CallOn);
+
+fn right(call: Call, lent: Lent) -> u32 {
+    COPIES[0](call, lent)
+}
+
+/// The stand-ins that are no edit of the text but something around it.
+const WRAPPED: &[Bug] = &[
+    ("refuses all calls", Breaks::Session(4), |_, _| REFUSAL),
+    ("reads are always $FF", Breaks::Session(4), |call, lent| {
+        let answer = right(call, lent);
+        if matches!(call, Call::Read { .. }) { 0xFF } else { answer }
+    }),
+    ("the cycle leaves everything alone", Breaks::Session(4), |call, lent| match call {
+        Call::RunReuCycle { .. } if lent.image.len() == IMAGE => u32::from(lent.image[21]),
+        _ => right(call, lent),
+    }),
+    ("the first cycle of a live command answers 0", Breaks::Anything, |call, lent| {
+        let first = matches!(call, Call::RunReuCycle { .. }) && lent.image.len() == IMAGE && lent.image[33] & 8 != 0;
+        let answer = right(call, lent);
+        if first && answer == 1 { 0 } else { answer }
+    }),
+    ("the remaining length that is shown is invented", Breaks::Session(6), |call, lent| {
+        let Lent { image, bus, storage } = lent;
+        let before = image.to_vec();
+        let answer = right(call, Lent { image: &mut *image, bus, storage });
+        if matches!(call, Call::RunReuCycle { .. }) && image.len() == IMAGE {
+            image[7..9].copy_from_slice(&before[7..9]);
+        }
+        answer
+    }),
+    ("a swap exchanges the block in cycle 1 and idles for the others", Breaks::Session(9), |call, lent| {
+        let Lent { image, bus, storage } = lent;
+        let cycle = matches!(call, Call::RunReuCycle { .. });
+        for _ in 0..131_072 {
+            let answer = right(call, Lent { image: &mut *image, bus: &mut *bus, storage: &mut *storage });
+            let swaps = cycle && answer == 1 && image[22] == 2;
+            if !swaps {
+                return answer;
+            }
+        }
+        1
+    }),
+    ("a swap counts and exchanges nothing", Breaks::Midway, |call, lent| {
+        let Lent { image, bus, storage } = lent;
+        let swaps = matches!(call, Call::RunReuCycle { .. }) && image.len() == IMAGE && image[22] == 2;
+        let places = image.first_chunk().map_or((0, 0), crate::sides::places);
+        let kept = swaps.then(|| (bus.get(places.0).copied(), storage.get(places.1).copied()));
+        let answer = right(call, Lent { image, bus: &mut *bus, storage: &mut *storage });
+        if let Some((Some(byte), Some(other))) = kept {
+            (bus[places.0], storage[places.1]) = (byte, other);
+        }
+        answer
+    }),
+    ("a refusal changes the image", Breaks::Anything, |call, lent| {
+        let Lent { image, bus, storage } = lent;
+        let answer = right(call, Lent { image: &mut *image, bus, storage });
+        if answer >= REFUSAL && image.len() == IMAGE {
+            image[0] ^= 0x80;
+        }
+        answer
+    }),
+    ("a refusal changes the storage's last byte", Breaks::Anything, |call, lent| {
+        let Lent { image, bus, storage } = lent;
+        let answer = right(call, Lent { image, bus, storage: &mut *storage });
+        if let Some(byte) = storage.last_mut().filter(|_| answer >= REFUSAL) {
+            *byte ^= 1;
+        }
+        answer
+    }),
+    ("a refusal has a value", Breaks::Anything, |call, lent| {
+        let answer = right(call, lent);
+        if answer >= REFUSAL { answer + 1 } else { answer }
+    }),
+    ("a byte behind the image is written", Breaks::Anything, |call, lent| {
+        let behind = lent.image.as_mut_ptr_range().end;
+        let answer = right(call, lent);
+        // SAFETY: none in general; every buffer of this program has bytes behind it, which is what is tried here.
+        unsafe { *behind = 0 };
+        answer
+    }),
+    ("a byte before the bus is written", Breaks::Anything, |call, lent| {
+        let start = lent.bus.as_mut_ptr();
+        let answer = right(call, lent);
+        // SAFETY: as above, with bytes before it.
+        unsafe { *start.sub(1) = 0 };
+        answer
+    }),
+];
+
+/// Runs a part of the comparison; a stand-in that panics has been caught too.
+pub fn caught_by(part: impl FnOnce() -> Result<(), String>) -> Option<String> {
+    match catch_unwind(AssertUnwindSafe(part)) {
+        Ok(done) => done.err(),
+        Err(_) => Some("it panics".into()),
+    }
+}
+
+fn random_run(standin: CallOn, calls: &mut u64) -> Result<(), String> {
+    let (mut tried, mut right) = (Held::new(Standin(standin)), Original::default());
+    let mut run = Run::new(crate::SEED);
+    let mut pair = Pair { tried: &mut tried, right: &mut right };
+    let done = run.compare(&mut pair, CALLS);
+    *calls = run.calls;
+    done.map_err(|disagreement| disagreement.what)
+}
+
+fn demand3_runs(standin: CallOn) -> Result<(), String> {
+    let mut refuser = Refusals::new(Standin(standin), crate::SEED);
+    let mut machine = Held::new(Standin(standin));
+    (0..DEMAND3_RUNS).try_for_each(|seed| demand3::run(&mut machine, Some(&mut refuser), seed))
+}
+
+fn broken_sessions(standin: CallOn) -> Vec<usize> {
+    let mut machine = Held::new(Standin(standin));
+    let mut plays = |number| catch_unwind(AssertUnwindSafe(|| sessions::plays(&mut machine, number)));
+    (1..=sessions::COUNT).filter(|number| !plays(*number).unwrap_or(false)).collect()
+}
+
+/// How the random run or, if that does not, the refusals catch a stand-in.
+fn caught_in_runs(standin: CallOn) -> Option<String> {
+    let mut calls = 0;
+    if let Some(what) = caught_by(|| random_run(standin, &mut calls)) {
+        return Some(format!("after {calls} calls: {what}"));
+    }
+    let mut refusals = Refusals::new(Standin(standin), crate::SEED);
+    let what = caught_by(|| refusals.run())?;
+    // The lengths and the image that follow are too long for a line.
+    let brief = what.split(';').next().unwrap_or_default();
+    Some(format!("after {} refused calls: {brief}", refusals.calls))
+}
+
+/// How a stand-in is caught by all the parts; none if it is not, or not by what must break.
+fn how_caught(standin: CallOn, breaks: Breaks) -> Option<String> {
+    let sessions = broken_sessions(standin);
+    let demand3 = caught_by(|| demand3_runs(standin));
+    let holds = match breaks {
+        Breaks::Anything => true,
+        Breaks::Session(number) => sessions.contains(&number),
+        Breaks::Midway => demand3.as_ref().is_some_and(|what| what.contains("midway")),
+    };
+    let names: Vec<String> = sessions.iter().map(|number| format!("R{number}")).collect();
+    let broken = (!names.is_empty()).then(|| format!("breaks {}", names.join(" ")));
+    let ways: Vec<String> = [caught_in_runs(standin), broken, demand3].into_iter().flatten().collect();
+    (holds && !ways.is_empty()).then(|| ways.join("; "))
+}
+
+/// Every bug; document 01's port mistakes come first.
+pub fn bugs() -> Vec<Bug> {
+    let edited = PLANTED.iter().zip(&COPIES[1..]).map(|(planted, copy)| {
+        let breaks = planted.session.map_or(Breaks::Anything, Breaks::Session);
+        (planted.name, breaks, *copy)
+    });
+    edited.chain(WRAPPED.iter().copied()).collect()
+}
+
+/// Tries every planted bug, and the stand-in without one, which must not be caught.
+pub fn run() -> bool {
+    std::panic::set_hook(Box::new(|_| {}));
+    let mut good = true;
+    if let Some(how) = how_caught(COPIES[0], Breaks::Anything) {
+        println!("the stand-in without a bug is caught: {how}");
+        good = false;
+    }
+    let bugs = bugs();
+    let mut caught = 0;
+    for (name, breaks, standin) in &bugs {
+        match how_caught(*standin, *breaks) {
+            Some(how) => {
+                caught += 1;
+                println!("caught: {name}: {how}");
+            }
+            None => println!("NOT CAUGHT: {name}"),
+        }
+    }
+    println!("caught {caught} of {} planted", bugs.len());
+    good && caught == bugs.len()
+}

@@ -1,0 +1,101 @@
+//! The library's side: libreu.a, called as a host calls it.
+
+use crate::calls::Call;
+use crate::sides::{Lent, Port};
+
+unsafe extern "C" {
+    fn reu_new(image: *mut u8, image_len: usize) -> u32;
+    fn reu_reset(image: *mut u8, image_len: usize, hard_reset: u32) -> u32;
+    fn reu_set_enabled(image: *mut u8, image_len: usize, storage: *mut u8, storage_len: usize, enabled: u32) -> u32;
+    fn reu_storage_present(image: *const u8, image_len: usize) -> u32;
+    fn reu_capacity_bytes(image: *const u8, image_len: usize) -> u32;
+    fn reu_trigger_ff00(image: *mut u8, image_len: usize) -> u32;
+    fn reu_read(image: *mut u8, image_len: usize, addr: u16) -> u32;
+    fn reu_write(image: *mut u8, image_len: usize, addr: u16, value: u8) -> u32;
+    fn reu_dma_active(image: *const u8, image_len: usize) -> u32;
+    fn reu_cpu_ready_after_dma(image: *mut u8, image_len: usize, ba_high: u32) -> u32;
+    fn reu_bus_action(
+        image: *mut u8,
+        image_len: usize,
+        storage: *mut u8,
+        storage_len: usize,
+        ba_high: u32,
+        ba_high_phi1: u32,
+        cycle: u64,
+    ) -> u32;
+    fn reu_debug_register(image: *const u8, image_len: usize, index: u64) -> u32;
+    fn reu_c64_access(image: *const u8, image_len: usize) -> u32;
+    fn reu_tick_dma(
+        image: *mut u8,
+        image_len: usize,
+        bus: *mut u8,
+        bus_len: usize,
+        storage: *mut u8,
+        storage_len: usize,
+        cycle: u64,
+        ba_low: u32,
+    ) -> u32;
+    fn reu_run_reu_cycle(
+        image: *mut u8,
+        image_len: usize,
+        bus: *mut u8,
+        bus_len: usize,
+        storage: *mut u8,
+        storage_len: usize,
+        ba_high: u32,
+        cycle: u64,
+        ba_low: u32,
+        ba_high_phi1: u32,
+    ) -> u32;
+}
+
+pub struct Library;
+
+/// A buffer as C passes it; one without bytes is a null pointer, as a careless host would have it.
+fn parts(bytes: &mut [u8]) -> (*mut u8, usize) {
+    if bytes.is_empty() { (std::ptr::null_mut(), 0) } else { (bytes.as_mut_ptr(), bytes.len()) }
+}
+
+impl Port for Library {
+    fn call(&mut self, call: Call, lent: Lent) -> u32 {
+        let (image, size) = parts(lent.image);
+        let (bus, bus_size) = parts(lent.bus);
+        let (storage, storage_size) = parts(lent.storage);
+        // SAFETY: the declarations above are the library's; each pointer is lent with its own length, for this call
+        // alone, and the three buffers are apart, since they are three exclusive borrows.
+        unsafe {
+            match call {
+                Call::New => reu_new(image, size),
+                Call::Reset { hard_reset } => reu_reset(image, size, hard_reset),
+                Call::SetEnabled { enabled } => reu_set_enabled(image, size, storage, storage_size, enabled),
+                Call::StoragePresent => reu_storage_present(image, size),
+                Call::CapacityBytes => reu_capacity_bytes(image, size),
+                Call::TriggerFf00 => reu_trigger_ff00(image, size),
+                Call::Read { addr } => reu_read(image, size, addr),
+                Call::Write { addr, value } => reu_write(image, size, addr, value),
+                Call::DmaActive => reu_dma_active(image, size),
+                Call::CpuReadyAfterDma { ba_high } => reu_cpu_ready_after_dma(image, size, ba_high),
+                Call::BusAction { ba_high, ba_high_phi1, cycle } => {
+                    reu_bus_action(image, size, storage, storage_size, ba_high, ba_high_phi1, cycle)
+                }
+                Call::DebugRegister { index } => reu_debug_register(image, size, index),
+                Call::C64Access => reu_c64_access(image, size),
+                Call::TickDma { cycle, ba_low } => {
+                    reu_tick_dma(image, size, bus, bus_size, storage, storage_size, cycle, ba_low)
+                }
+                Call::RunReuCycle { ba_high, cycle, ba_low, ba_high_phi1 } => reu_run_reu_cycle(
+                    image,
+                    size,
+                    bus,
+                    bus_size,
+                    storage,
+                    storage_size,
+                    ba_high,
+                    cycle,
+                    ba_low,
+                    ba_high_phi1,
+                ),
+            }
+        }
+    }
+}

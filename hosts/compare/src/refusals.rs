@@ -1,0 +1,316 @@
+//! Refusals: each wrong length, each bad field, each set of faults, with nothing changed by any of them.
+
+use crate::accepted::{accepted, refusal};
+use crate::calls::{Call, NAMES};
+use crate::generate::Generator;
+use crate::rng::{Rng, noise};
+use crate::sides::{BUS, IMAGE, Image, Lent, Port, REFUSAL, STORAGE};
+use std::alloc::{Layout, alloc_zeroed, dealloc};
+
+/// Bytes before what is lent; what lies behind is the rest of the arena.
+const MARGIN: usize = 64;
+/// Whole arenas are looked at after so many calls, and their ends after each.
+const WHOLE_EVERY: u64 = 65_536;
+/// Images that are tried with every value of every byte from 18 on, and rounds of drawn faults.
+const BASES: usize = 8;
+const ROUNDS: usize = 1_000;
+
+/// What a length of 32 bits would not show.
+const HUGE: usize = 1 << 32;
+
+/// Lent from, and compared with what it held.
+struct Arena {
+    bytes: Vec<u8>,
+    kept: Vec<u8>,
+}
+
+impl Arena {
+    fn new(largest: usize, seed: u64) -> Self {
+        let mut bytes = vec![0; largest + 2 * MARGIN];
+        noise(&mut bytes, seed);
+        Self { kept: bytes.clone(), bytes }
+    }
+
+    fn lend(&mut self, length: usize) -> &mut [u8] {
+        &mut self.bytes[MARGIN..MARGIN + length]
+    }
+
+    fn set(&mut self, bytes: &[u8]) {
+        self.bytes[MARGIN..MARGIN + bytes.len()].copy_from_slice(bytes);
+        self.kept[MARGIN..MARGIN + bytes.len()].copy_from_slice(bytes);
+    }
+
+    /// Both ends of the first `length` lent bytes, and what lies beside them.
+    fn ends_hold(&self, length: usize) -> bool {
+        let end = MARGIN + length;
+        let near = |at: usize| at.saturating_sub(MARGIN)..(at + MARGIN).min(self.bytes.len());
+        self.bytes[near(MARGIN)] == self.kept[near(MARGIN)] && self.bytes[near(end)] == self.kept[near(end)]
+    }
+
+    fn holds(&self) -> bool {
+        self.bytes == self.kept
+    }
+}
+
+/// Something that can be asked for a refused call between two others.
+pub trait Refuser {
+    /// Makes one call that must be refused, with this image among what may be lent.
+    fn refuse(&mut self, image: &Image) -> Result<(), String>;
+}
+
+pub struct Refusals<P> {
+    port: P,
+    rng: Rng,
+    generator: Generator,
+    image: Arena,
+    bus: Arena,
+    storage: Arena,
+    /// The calls made so far, nearly all of them refused.
+    pub calls: u64,
+}
+
+/// The lengths that a call is lent.
+#[derive(Clone, Copy)]
+struct Lengths {
+    image: usize,
+    bus: usize,
+    storage: usize,
+}
+
+const RIGHT: Lengths = Lengths { image: IMAGE, bus: BUS, storage: STORAGE };
+
+impl<P: Port> Refusals<P> {
+    pub fn new(port: P, seed: u64) -> Self {
+        let (image, bus, storage) = (Arena::new(4096, seed), Arena::new(2 * BUS, seed), Arena::new(2 * STORAGE, seed));
+        Self { port, rng: Rng::new(seed), generator: Generator::new(seed), image, bus, storage, calls: 0 }
+    }
+
+    /// One call on what the arenas hold: its answer must be the refusal that document 01 gives, and nothing changes.
+    fn refused(&mut self, call: Call, lengths: Lengths) -> Result<(), String> {
+        let image = self.image.lend(lengths.image);
+        let expected = refusal(call, image, lengths.bus, lengths.storage);
+        assert!(expected != 0, "a call that must be refused");
+        let (bus, storage) = (self.bus.lend(lengths.bus), self.storage.lend(lengths.storage));
+        let answer = self.port.call(call, Lent { image, bus, storage });
+        self.calls += 1;
+        let told = |what: &str| {
+            let bytes = &self.image.kept[MARGIN..MARGIN + lengths.image.min(IMAGE)];
+            let Lengths { image, bus, storage } = lengths;
+            format!("{call} {what}; lengths {image}, {bus}, {storage}; image {bytes:02x?}")
+        };
+        if answer != expected * REFUSAL {
+            return Err(told(&format!("answers {answer}, not refusal {expected}")));
+        }
+        let near = self.image.ends_hold(lengths.image)
+            && self.bus.ends_hold(lengths.bus)
+            && self.storage.ends_hold(lengths.storage);
+        if !near || (self.calls.is_multiple_of(WHOLE_EVERY) && !self.unchanged()) {
+            return Err(told("is refused and changes a byte"));
+        }
+        Ok(())
+    }
+
+    fn unchanged(&self) -> bool {
+        self.image.holds() && self.bus.holds() && self.storage.holds()
+    }
+
+    fn any_call(&mut self) -> Call {
+        let place = self.rng.below(NAMES.len());
+        self.generator.call(place)
+    }
+
+    /// Every wrong length of every buffer, up to twice the right one and beyond.
+    fn lengths(&mut self) -> Result<(), String> {
+        for place in 0..NAMES.len() {
+            let image = self.generator.image();
+            self.image.set(&image);
+            let call = self.generator.call(place);
+            for image in (0..4096).filter(|length| *length != IMAGE) {
+                self.refused(call, Lengths { image, ..RIGHT })?;
+            }
+            for bus in (0..=2 * BUS).filter(|length| call.lends_bus() && *length != BUS) {
+                self.refused(call, Lengths { bus, ..RIGHT })?;
+            }
+            for storage in (0..=2 * STORAGE).filter(|length| call.lends_storage() && *length != STORAGE) {
+                self.refused(call, Lengths { storage, ..RIGHT })?;
+            }
+        }
+        Ok(())
+    }
+
+    /// Lengths that only 64 bits tell from the right ones, with buffers that are really that long.
+    fn huge_lengths(&mut self) -> Result<(), String> {
+        let layout = Layout::array::<u8>(HUGE + STORAGE).expect("a layout of four gigabytes");
+        // SAFETY: the layout is not empty; pages that nobody touches take no room.
+        let start = unsafe { alloc_zeroed(layout) };
+        if start.is_null() {
+            println!("refusals: no room for lengths beyond 2^32: left out");
+            return Ok(());
+        }
+        let image = self.generator.image();
+        self.image.set(&image);
+        let mut done = Ok(());
+        for (place, number) in (0..NAMES.len()).flat_map(|place| [1, 3, 4].map(|number| (place, number))) {
+            // SAFETY: so many bytes were allocated and set to 0, and nothing else points at them.
+            let huge = unsafe { std::slice::from_raw_parts_mut(start, HUGE + STORAGE) };
+            done = done.and_then(|()| self.huge_length(place, number, huge));
+        }
+        // SAFETY: allocated above with this layout.
+        unsafe { dealloc(start, layout) };
+        done
+    }
+
+    /// One call with a length 2^32 too large in the buffer that this refusal is about.
+    fn huge_length(&mut self, place: usize, number: u32, huge: &mut [u8]) -> Result<(), String> {
+        let call = self.generator.call(place);
+        if (number == 3 && !call.lends_bus()) || (number == 4 && !call.lends_storage()) {
+            return Ok(());
+        }
+        let (image, bus, storage) = (self.image.lend(IMAGE), self.bus.lend(BUS), self.storage.lend(STORAGE));
+        let mut lent = Lent { image, bus, storage };
+        match number {
+            1 => lent.image = &mut huge[..HUGE + IMAGE],
+            3 => lent.bus = &mut huge[..HUGE + BUS],
+            _ => lent.storage = huge,
+        }
+        self.calls += 1;
+        let answer = self.port.call(call, lent);
+        if answer == number * REFUSAL && self.unchanged() {
+            return Ok(());
+        }
+        Err(format!("{call} with a length 2^32 too large answers {answer}, not refusal {number}"))
+    }
+
+    /// One image, accepted or not, as all fifteen calls must see it.
+    fn image(&mut self, image: &Image) -> Result<(), String> {
+        self.image.set(image);
+        if accepted(image) {
+            return self.taken(image);
+        }
+        for place in 1..NAMES.len() {
+            let call = self.generator.call(place);
+            self.refused(call, RIGHT)?;
+        }
+        self.new_on(image)
+    }
+
+    /// An accepted image is not refused. (What each call makes of it is compared with the original.)
+    fn taken(&mut self, image: &Image) -> Result<(), String> {
+        let (lent, bus, storage) = (self.image.lend(IMAGE), self.bus.lend(BUS), self.storage.lend(STORAGE));
+        let answer = self.port.call(Call::DmaActive, Lent { image: lent, bus, storage });
+        self.calls += 1;
+        if answer == u32::from(image[21]) {
+            return Ok(());
+        }
+        Err(format!("dma_active answers {answer}; accepted image {image:02x?}"))
+    }
+
+    /// `new` takes any 34 bytes and leaves the same image as ever.
+    fn new_on(&mut self, image: &Image) -> Result<(), String> {
+        let mut made = [[0; IMAGE], *image];
+        for image in &mut made {
+            let (bus, storage) = (self.bus.lend(BUS), self.storage.lend(STORAGE));
+            if self.port.call(Call::New, Lent { image, bus, storage }) != 0 {
+                return Err(format!("new refuses the image {image:02x?}"));
+            }
+        }
+        self.calls += 2;
+        if made[0] == made[1] { Ok(()) } else { Err(format!("new on {image:02x?} leaves {:02x?}", made[1])) }
+    }
+
+    /// Every value of every byte that has a range, from several accepted images; then several bytes at once.
+    fn fields(&mut self) -> Result<(), String> {
+        for _ in 0..BASES {
+            let base = self.generator.image();
+            for (at, value) in (18..IMAGE).flat_map(|at| (0..=255).map(move |value| (at, value))) {
+                let mut image = base;
+                image[at] = value;
+                self.image(&image)?;
+            }
+        }
+        for _ in 0..ROUNDS {
+            let mut image = self.generator.image();
+            for _ in 0..=self.rng.below(3) {
+                let at = 18 + self.rng.below(IMAGE - 18);
+                image[at] = self.rng.pick(&[0, 1, 2, 3, 4, 0x20, 0x40, 0x80, 0xFF]);
+            }
+            self.image(&image)?;
+        }
+        self.crossed_fields()
+    }
+
+    /// The rules that join two fields, each broken alone.
+    fn crossed_fields(&mut self) -> Result<(), String> {
+        for _ in 0..ROUNDS {
+            let mut image = self.generator.image();
+            if image[21] == 0 {
+                continue;
+            }
+            let remaining: u32 = self.rng.pick(&[0, 1, 2, 65_535, 65_536, 65_537, 65_792, 131_072, 0xFF_FFFF]);
+            match self.rng.below(4) {
+                0 => image[18] &= !4,
+                1 => image[23] ^= 1,
+                2 => image[33] ^= 0x20,
+                _ => image[29..32].copy_from_slice(&remaining.to_le_bytes()[..3]),
+            }
+            self.image(&image)?;
+        }
+        Ok(())
+    }
+
+    /// Any set of faults at once: the lowest number that the call tests is the answer.
+    fn faults(&mut self, call: Call, faults: usize) -> Result<(), String> {
+        let mut image = self.generator.image();
+        if faults & 2 != 0 {
+            let (at, value) = self.rng.pick(&[(19, 4), (20, 3), (21, 2), (33, 0x40), (23, 2), (22, 4)]);
+            image[at] = value;
+        }
+        self.image.set(&image);
+        let near = |rng: &mut Rng, right: usize| rng.pick(&[0, 1, right - 1, right + 1, right / 2, right * 2]);
+        let mut lengths = RIGHT;
+        if faults & 1 != 0 {
+            lengths.image = near(&mut self.rng, IMAGE);
+        }
+        if faults & 4 != 0 {
+            lengths.bus = near(&mut self.rng, BUS);
+        }
+        if faults & 8 != 0 {
+            lengths.storage = near(&mut self.rng, STORAGE);
+        }
+        // What a call is not lent has its right length: nothing could be said about it.
+        lengths.bus = if call.lends_bus() { lengths.bus } else { BUS };
+        lengths.storage = if call.lends_storage() { lengths.storage } else { STORAGE };
+        let bytes = self.image.lend(lengths.image);
+        if refusal(call, bytes, lengths.bus, lengths.storage) == 0 {
+            return Ok(());
+        }
+        self.refused(call, lengths)
+    }
+
+    /// All of it.
+    pub fn run(&mut self) -> Result<(), String> {
+        for _ in 0..ROUNDS {
+            for faults in 1..16 {
+                let call = self.any_call();
+                self.faults(call, faults)?;
+            }
+        }
+        self.fields()?;
+        self.huge_lengths()?;
+        self.lengths()?;
+        if self.unchanged() { Ok(()) } else { Err("a refused call has changed a byte".into()) }
+    }
+}
+
+impl<P: Port> Refuser for Refusals<P> {
+    fn refuse(&mut self, image: &Image) -> Result<(), String> {
+        let call = self.any_call();
+        self.image.set(image);
+        let lengths = match self.rng.below(3) {
+            0 if call.lends_bus() => Lengths { bus: self.rng.below(BUS), ..RIGHT },
+            1 if call.lends_storage() => Lengths { storage: self.rng.below(STORAGE), ..RIGHT },
+            _ => Lengths { image: self.rng.below(IMAGE), ..RIGHT },
+        };
+        self.refused(call, lengths)
+    }
+}

@@ -1,0 +1,147 @@
+//! The two sides of a comparison. A port has the fifteen calls on lent bytes, as the library exports them; a machine
+//! holds its own bytes, whether it is a port with its buffers or the original.
+
+use crate::calls::{Call, Step};
+use crate::rng::fill;
+
+pub const IMAGE: usize = 34;
+pub const BUS: usize = 65_536;
+pub const STORAGE: usize = 524_288;
+/// The unit of a refusal in an answer.
+pub const REFUSAL: u32 = 16_777_216;
+
+pub type Image = [u8; IMAGE];
+
+/// What a host has to lend; a call takes of it what it needs.
+pub struct Lent<'a> {
+    pub image: &'a mut [u8],
+    pub bus: &'a mut [u8],
+    pub storage: &'a mut [u8],
+}
+
+pub trait Port {
+    fn call(&mut self, call: Call, lent: Lent) -> u32;
+}
+
+pub trait Machine {
+    fn call(&mut self, call: Call) -> u32;
+    fn image(&self) -> Image;
+    /// Sets the controller from an accepted image.
+    fn load(&mut self, image: &Image);
+    fn interrupt(&self) -> bool;
+    fn bus(&self) -> &[u8];
+    fn bus_mut(&mut self) -> &mut [u8];
+    fn storage(&self) -> &[u8];
+    fn storage_mut(&mut self) -> &mut [u8];
+    /// Whether the bytes beside the machine's own are as they were.
+    fn guards_hold(&self) -> bool {
+        true
+    }
+
+    /// Does one step; a call gives its answer.
+    fn step(&mut self, step: Step) -> Option<u32> {
+        match step {
+            Step::Call(call) => return Some(self.call(call)),
+            Step::Memory(seed) => {
+                fill(self.bus_mut(), seed);
+                fill(self.storage_mut(), !seed);
+            }
+            Step::Image(image) => self.load(&image),
+            Step::Bus(addr, value) => self.bus_mut()[usize::from(addr)] = value,
+            Step::Storage(offset, value) => self.storage_mut()[offset as usize] = value,
+        }
+        None
+    }
+}
+
+/// Where an image's transfer points: a bus address and a storage offset. Without a transfer both are 0.
+pub fn places(image: &Image) -> (usize, usize) {
+    let c64 = usize::from(image[24]) + 256 * usize::from(image[25]);
+    let logical = usize::from(image[26]) + 256 * usize::from(image[27]) + 65_536 * usize::from(image[28]);
+    (c64, logical % STORAGE)
+}
+
+const GUARD: usize = 64;
+const GUARD_BYTE: u8 = 0xC3;
+
+/// Bytes with guards on both sides.
+pub struct Guarded(Vec<u8>);
+
+impl Guarded {
+    pub fn new(length: usize) -> Self {
+        let mut bytes = vec![0; length + 2 * GUARD];
+        bytes[..GUARD].fill(GUARD_BYTE);
+        bytes[GUARD + length..].fill(GUARD_BYTE);
+        Self(bytes)
+    }
+
+    fn end(&self) -> usize {
+        self.0.len() - GUARD
+    }
+
+    pub fn get(&self) -> &[u8] {
+        &self.0[GUARD..self.end()]
+    }
+
+    pub fn get_mut(&mut self) -> &mut [u8] {
+        let end = self.end();
+        &mut self.0[GUARD..end]
+    }
+
+    pub fn guards_hold(&self) -> bool {
+        self.0[..GUARD] == [GUARD_BYTE; GUARD] && self.0[self.end()..] == [GUARD_BYTE; GUARD]
+    }
+}
+
+/// A port with guarded buffers of the right lengths.
+pub struct Held<P> {
+    pub port: P,
+    image: Guarded,
+    bus: Guarded,
+    storage: Guarded,
+}
+
+impl<P: Port> Held<P> {
+    pub fn new(port: P) -> Self {
+        Self { port, image: Guarded::new(IMAGE), bus: Guarded::new(BUS), storage: Guarded::new(STORAGE) }
+    }
+}
+
+impl<P: Port> Machine for Held<P> {
+    fn call(&mut self, call: Call) -> u32 {
+        let (image, bus, storage) = (self.image.get_mut(), self.bus.get_mut(), self.storage.get_mut());
+        self.port.call(call, Lent { image, bus, storage })
+    }
+
+    fn image(&self) -> Image {
+        self.image.get().try_into().expect("the image has its length")
+    }
+
+    fn load(&mut self, image: &Image) {
+        self.image.get_mut().copy_from_slice(image);
+    }
+
+    fn interrupt(&self) -> bool {
+        self.image.get()[18] & 2 != 0
+    }
+
+    fn bus(&self) -> &[u8] {
+        self.bus.get()
+    }
+
+    fn bus_mut(&mut self) -> &mut [u8] {
+        self.bus.get_mut()
+    }
+
+    fn storage(&self) -> &[u8] {
+        self.storage.get()
+    }
+
+    fn storage_mut(&mut self) -> &mut [u8] {
+        self.storage.get_mut()
+    }
+
+    fn guards_hold(&self) -> bool {
+        self.image.guards_hold() && self.bus.guards_hold() && self.storage.guards_hold()
+    }
+}
