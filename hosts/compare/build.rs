@@ -4,8 +4,7 @@ mod table;
 mod text;
 
 use std::collections::HashMap;
-use std::env;
-use std::path::{Path, PathBuf};
+use std::path::Path;
 use table::{PLANTED, Planted};
 
 /// The modules that a copy has of its own; elsewhere `crate::` is this program.
@@ -13,7 +12,6 @@ const OWN: [&str; 4] = ["memory", "vic", "reu", "machine"];
 const HOST: [&str; 5] = ["host/vic", "host/memory", "host/storage", "host/fields", "host/machine"];
 
 fn main() {
-    link_library();
     match text::root() {
         Ok(root) => {
             println!("cargo::rustc-cfg=original");
@@ -21,21 +19,6 @@ fn main() {
         }
         Err(missing) => println!("cargo::warning={missing}"),
     }
-}
-
-/// Links libreu.a from REU_LIB_DIR, or from where `rt staticlib reu` leaves it.
-fn link_library() {
-    println!("cargo::rerun-if-env-changed=REU_LIB_DIR");
-    let folder = match env::var_os("REU_LIB_DIR") {
-        Some(named) => PathBuf::from(named),
-        None => text::manifest_folder().join("../../target/staticlib"),
-    };
-    println!("cargo::rerun-if-changed={}", folder.join("libreu.a").display());
-    if !folder.join("libreu.a").is_file() {
-        println!("cargo::error=no libreu.a in {}: run `rt staticlib reu`, or set REU_LIB_DIR", folder.display());
-    }
-    println!("cargo::rustc-link-search=native={}", folder.display());
-    println!("cargo::rustc-link-lib=static=reu");
 }
 
 /// Every text that a copy is made of, by name: the original's and what stands around it.

@@ -2,52 +2,7 @@
 
 use crate::calls::Call;
 use crate::sides::{Lent, Port};
-
-unsafe extern "C" {
-    fn reu_new(image: *mut u8, image_len: usize) -> u32;
-    fn reu_reset(image: *mut u8, image_len: usize, hard_reset: u32) -> u32;
-    fn reu_set_enabled(image: *mut u8, image_len: usize, storage: *mut u8, storage_len: usize, enabled: u32) -> u32;
-    fn reu_storage_present(image: *const u8, image_len: usize) -> u32;
-    fn reu_capacity_bytes(image: *const u8, image_len: usize) -> u32;
-    fn reu_trigger_ff00(image: *mut u8, image_len: usize) -> u32;
-    fn reu_read(image: *mut u8, image_len: usize, addr: u16) -> u32;
-    fn reu_write(image: *mut u8, image_len: usize, addr: u16, value: u8) -> u32;
-    fn reu_dma_active(image: *const u8, image_len: usize) -> u32;
-    fn reu_cpu_ready_after_dma(image: *mut u8, image_len: usize, ba_high: u32) -> u32;
-    fn reu_bus_action(
-        image: *mut u8,
-        image_len: usize,
-        storage: *mut u8,
-        storage_len: usize,
-        ba_high: u32,
-        ba_high_phi1: u32,
-        cycle: u64,
-    ) -> u32;
-    fn reu_debug_register(image: *const u8, image_len: usize, index: u64) -> u32;
-    fn reu_c64_access(image: *const u8, image_len: usize) -> u32;
-    fn reu_tick_dma(
-        image: *mut u8,
-        image_len: usize,
-        bus: *mut u8,
-        bus_len: usize,
-        storage: *mut u8,
-        storage_len: usize,
-        cycle: u64,
-        ba_low: u32,
-    ) -> u32;
-    fn reu_run_reu_cycle(
-        image: *mut u8,
-        image_len: usize,
-        bus: *mut u8,
-        bus_len: usize,
-        storage: *mut u8,
-        storage_len: usize,
-        ba_high: u32,
-        cycle: u64,
-        ba_low: u32,
-        ba_high_phi1: u32,
-    ) -> u32;
-}
+use reu::raw::*;
 
 pub struct Library;
 
@@ -61,7 +16,7 @@ impl Port for Library {
         let (image, size) = parts(lent.image);
         let (bus, bus_size) = parts(lent.bus);
         let (storage, storage_size) = parts(lent.storage);
-        // SAFETY: the declarations above are the library's; each pointer is lent with its own length, for this call
+        // SAFETY: the declarations are the library's, as tools/check-header tests; each pointer is lent with its own length, for this call
         // alone, and the three buffers are apart, since they are three exclusive borrows.
         unsafe {
             match call {
