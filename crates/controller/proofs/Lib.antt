@@ -1,4 +1,5 @@
 pub mod Laws
+pub mod NoEdge
 pub mod Pick
 pub mod Checked
 pub mod Sound

@@ -231,9 +231,13 @@ impl Reu {
         let mut reu = self;
         reu.late_ba_fall = ba_high_phi1 & !ba_high;
         reu.ba_was_high = ba_high_phi1;
-        let resumed = reu.resume(storage, rising, cycle);
-        let repeated = resumed.repeat(falling);
-        repeated.decide(storage, ba_high_phi1, falling, late)
+        // Most cycles have no edge.
+        if rising | falling {
+            let resumed = reu.resume(storage, rising, cycle);
+            let repeated = resumed.repeat(falling);
+            return repeated.decide(storage, ba_high_phi1, falling, late);
+        }
+        reu.decide(storage, ba_high_phi1, falling, late)
     }
 
     // The release is used up, whatever BA is.
