@@ -394,8 +394,8 @@ const SCRIPTS: [u64; 196] = [
 
 fn main() {
     let mut image = [0u8; 34];
-    let mut bus = [0u8; 65536];
-    let mut storage = [0u8; 524288];
+    let mut bus = empty_bus();
+    let mut storage = empty_storage();
     let n = script::play_table(&SCRIPTS, &TABLES, &mut image, &mut bus, &mut storage);
     io::print_decimal(1, n as u64);
     io::write_all(1, b" of 142\n");

@@ -10,6 +10,7 @@
 // A script is played for each line of a table. A line is one number too: its last two hexadecimal digits say
 // which cases to play, and the others are columns that a row may add to its value or to its place:
 //     MASK + BYTE + 4 * COLUMN      writes the line's digits 5 and 4 to the mask (digit 0 is the last)
+ghost use mathlib.Core.Path.{_≡_};
 ghost use Prim.Native.Nat.{_≤_, _<_};
 ghost use lib.ListN.{length};
 
@@ -385,4 +386,18 @@ pub fn play_table(
         agreeing = agreeing + one(play(script, table[i], image, bus, storage));
     }
     agreeing
+}
+
+// A bus and a storage for a script. What is known of these arrays is their length, which is all that lending them needs.
+
+pub fn empty_bus() -> [u8; 65536]
+    ensures { λ r. ⌜ 65536 ≡ length r ⌝ }
+{
+    [0; 65536]
+}
+
+pub fn empty_storage() -> [u8; 524288]
+    ensures { λ r. ⌜ 524288 ≡ length r ⌝ }
+{
+    [0; 524288]
 }

@@ -255,8 +255,8 @@ const NUMBERS: [u64; 16] = [1, 2, 3, 4, 5, 6, 7, 8, 9, 10, 11, 12, 13, 14, 15, 1
 
 fn main() {
     let mut image = [0u8; 34];
-    let mut bus = [0u8; 65536];
-    let mut storage = [0u8; 524288];
+    let mut bus = empty_bus();
+    let mut storage = empty_storage();
     let n = script::play_table(&SESSIONS, &NUMBERS, &mut image, &mut bus, &mut storage);
     io::print_decimal(1, n as u64);
     io::write_all(1, b" of 16\n");

@@ -1,0 +1,16 @@
+use mathlib.Core.Path.{_≡_}
+use Prim.Native.Nat.{_-_, _≤_}
+use native.Mathlib.Omega.{arith}
+use lib.ListN.{length}
+use borrow.Author.Needs.{needs}
+use Rattle.console.proofs.output.beside.Statement.{statement}
+use Rattle.console.proofs.output.beside.Tie as tie
+
+abbrev Inv-loop : tie.InvT-loop
+Inv-loop image other between colour any₀ i₀ any i = i ≤ 21
+
+abbrev μ-loop : tie.MeasureT-loop
+μ-loop image other between colour any₀ i₀ any i = 21 - i
+
+pub beside-spec : {M : Type 1} → statement M
+beside-spec = tie.close (tie.spec Inv-loop μ-loop (λ c. search needs) (λ c κs. search needs) (λ c. omega arith) (λ c. omega arith) (λ c. search needs) (λ c. search needs))

@@ -1,0 +1,90 @@
+// A monitor for the 8726: the registers, stepping by bus cycle, FF00, and saved machines, in a terminal.
+mod commands;
+mod keys;
+mod session;
+mod step;
+
+ghost use mathlib.Core.Path.{_≡_};
+ghost use lib.ListN.{length};
+use commands::turn;
+use console::output::say;
+use console::output::tell;
+use pane::line::Line;
+use pane::line::fill;
+use pane::line::first;
+use session::Session;
+
+fn argument(i: usize) -> Line {
+    let mut buffer = [0u8; 128];
+    let n = os::arg(i, &mut buffer);
+    Line::new().text(&buffer[..n])
+}
+
+// Commands come from standard input, or from the file that an argument names.
+fn source(script: Line) -> i32 {
+    if script.used == 0 {
+        return 0;
+    }
+    let bytes = script.all();
+    os::open_read(first(&bytes, script.used))
+}
+
+fn turns(start: Session, fd: i32, image: &mut [u8], bus: &mut [u8], storage: &mut [u8]) {
+    let mut session = start;
+    let mut left = u64::MAX;
+    while left > 0 {
+        session = turn(session, fd, image, bus, storage);
+        if session.ended {
+            return;
+        }
+        left -= 1;
+    }
+}
+
+fn script_after(word: Line) -> Line {
+    if word.key() == keys::COLOUR {
+        return argument(2);
+    }
+    word
+}
+
+fn greet(echo: bool) {
+    if !echo {
+        tell(b"A new machine, not enabled yet. help lists the commands.");
+    }
+}
+
+fn begin(image: &mut [u8], bus: &mut [u8], storage: &mut [u8]) {
+    let word = argument(1);
+    let script = script_after(word);
+    let fd = source(script);
+    if fd < 0 {
+        say(fill(b"cannot read the commands in %", script));
+        return;
+    }
+    reu::reu_new(image);
+    greet(libc::isatty(fd) != 1);
+    let session = Session::new(word.key() == keys::COLOUR, libc::isatty(fd) != 1);
+    turns(session, fd, image, bus, storage);
+}
+
+// What is known of these arrays is their length alone, which is all that lending them needs.
+
+fn empty_bus() -> [u8; 65536]
+    ensures { λ r. ⌜ 65536 ≡ length r ⌝ }
+{
+    [0; 65536]
+}
+
+fn empty_storage() -> [u8; 524288]
+    ensures { λ r. ⌜ 524288 ≡ length r ⌝ }
+{
+    [0; 524288]
+}
+
+fn main() {
+    let mut image = [0u8; 34];
+    let mut bus = empty_bus();
+    let mut storage = empty_storage();
+    begin(&mut image, &mut bus, &mut storage);
+}

@@ -1,0 +1,6 @@
+// What the monitor shows and what it is told, as text: lines, numbers, and the rows of the register pane.
+pub mod faults;
+pub mod line;
+pub mod number;
+pub mod places;
+pub mod rows;

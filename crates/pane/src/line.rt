@@ -1,0 +1,297 @@
+// A line of text, by value: what is shown, and what was typed. What does not fit is left out.
+use crate::number::Number;
+use crate::number::value_of;
+ghost use mathlib.Core.Path.{_≡_};
+ghost use mathlib.Core.List.{_∷_, [], _++_};
+ghost use Prim.Native.Nat.{_≤_};
+ghost use lib.ListN.{length};
+ghost use Rattle.pane.specs.Shown.{cut, hexDigit, hexOf, textOf};
+
+pub const WIDTH: usize = 160;
+
+pub struct Line {
+    pub bytes: [u8; 160],
+    pub used: usize,
+}
+
+fn glyph(digit: u8) -> u8
+    ensures { λ r. ⌜ r ≡ hexDigit digit ⌝ }
+{
+    if digit < 10 {
+        return 48 + digit;
+    }
+    if digit < 16 {
+        return 55 + digit;
+    }
+    b'?'
+}
+
+fn is_blank(byte: u8) -> bool {
+    (byte == b' ') | (byte == b'\t') | (byte == b'\r')
+}
+
+fn wide(byte: u8) -> u64
+    ensures { λ r. ⌜ r ≤ 255 ⌝ }
+{
+    byte as u64
+}
+
+// A character of a template: the bit that it names, or itself.
+fn shown(named: bool, template: u8, byte: u8) -> u8 {
+    if !named {
+        return template;
+    }
+    48 + bit_at(byte, template)
+}
+
+// The bit whose number is a digit from 0 to 7.
+fn bit_at(byte: u8, digit: u8) -> u8
+    ensures { λ r. ⌜ r ≤ 1 ⌝ }
+{
+    match digit {
+        b'0' => byte % 2,
+        b'1' => byte / 2 % 2,
+        b'2' => byte / 4 % 2,
+        b'3' => byte / 8 % 2,
+        b'4' => byte / 16 % 2,
+        b'5' => byte / 32 % 2,
+        b'6' => byte / 64 % 2,
+        _ => byte / 128,
+    }
+}
+
+fn one(counted: bool) -> usize
+    ensures { λ r. ⌜ r ≤ 1 ⌝ }
+{
+    if counted { 1 } else { 0 }
+}
+
+// The first bytes of a slice: all, where it has fewer.
+pub fn first(s: &[u8], n: usize) -> &[u8] {
+    if n <= s.len() { &s[0..n] } else { s }
+}
+
+// A text in which `word` stands for each %.
+pub fn fill(template: &[u8], word: Line) -> Line {
+    let mut line = Line::new();
+    let mut i = 0;
+    while i < template.len() {
+        line = filled(line, template[i], word);
+        i += 1;
+    }
+    line
+}
+
+fn filled(line: Line, next: u8, word: Line) -> Line {
+    if next == b'%' {
+        return line.line(word, 0);
+    }
+    line.put(next)
+}
+
+impl Line {
+    pub fn new() -> Line {
+        Line {
+            bytes: [b' '; 160],
+            used: 0,
+        }
+    }
+
+    pub fn put(mut self, byte: u8) -> Line
+        ensures { λ r. ⌜ textOf r ≡ cut (textOf self ++ (byte ∷ [])) ⌝ }
+    {
+        let at = self.used;
+        if at < 160 {
+            self.bytes[at] = byte;
+            self.used = at + 1;
+        }
+        self
+    }
+
+    fn put_if(self, kept: bool, byte: u8) -> Line {
+        if kept { self.put(byte) } else { self }
+    }
+
+    pub fn text(self, s: &[u8]) -> Line
+        ensures { λ r. ⌜ textOf r ≡ cut (textOf self ++ now (s .entry)) ⌝ }
+    {
+        let mut line = self;
+        let mut i = 0;
+        while i < s.len() {
+            line = line.put(s[i]);
+            i += 1;
+        }
+        line
+    }
+
+    // How many bytes the line has: never more than its array.
+    pub fn length(self) -> usize
+        ensures { λ r. ⌜ r ≤ 160 ⌝ }
+    {
+        let used = self.used;
+        if used < 160 { used } else { 160 }
+    }
+
+    // The whole array, of which `length` bytes count.
+    pub fn all(self) -> [u8; 160]
+        ensures { λ r. ⌜ 160 ≡ length r ⌝ }
+    {
+        self.bytes
+    }
+
+    pub fn byte(self, i: usize) -> u8 {
+        if i < 160 { self.bytes[i] } else { b' ' }
+    }
+
+    // The first bytes alone.
+    pub fn head(mut self, n: usize) -> Line {
+        if n < self.used {
+            self.used = n;
+        }
+        self
+    }
+
+    // The bytes of `other` from `from` on.
+    pub fn line(self, other: Line, from: usize) -> Line {
+        let length = other.length();
+        let mut line = self;
+        let mut i = from;
+        while i < length {
+            line = line.put(other.byte(i));
+            i += 1;
+        }
+        line
+    }
+
+    // Blanks up to a column.
+    pub fn pad(self, column: usize) -> Line {
+        let mut line = self;
+        let mut left = column;
+        while left > 0 {
+            line = line.put_if(line.used < column, b' ');
+            left -= 1;
+        }
+        line
+    }
+
+    // ---- numbers
+
+    pub fn hex1(self, n: u8) -> Line
+        ensures { λ r. ⌜ textOf r ≡ cut (textOf self ++ hexOf 1 n) ⌝ }
+    {
+        self.put(glyph(n % 16))
+    }
+
+    pub fn hex2(self, n: u8) -> Line
+        ensures { λ r. ⌜ textOf r ≡ cut (textOf self ++ hexOf 2 n) ⌝ }
+    {
+        self.hex1(n / 16).hex1(n)
+    }
+
+    pub fn hex4(self, n: u32) -> Line
+        ensures { λ r. ⌜ textOf r ≡ cut (textOf self ++ hexOf 4 n) ⌝ }
+    {
+        self.hex2((n / 256 % 256) as u8).hex2((n % 256) as u8)
+    }
+
+    pub fn hex5(self, n: u32) -> Line
+        ensures { λ r. ⌜ textOf r ≡ cut (textOf self ++ hexOf 5 n) ⌝ }
+    {
+        self.hex1((n / 65536 % 16) as u8).hex4(n)
+    }
+
+    pub fn hex6(self, n: u32) -> Line
+        ensures { λ r. ⌜ textOf r ≡ cut (textOf self ++ hexOf 6 n) ⌝ }
+    {
+        self.hex2((n / 65536 % 256) as u8).hex4(n)
+    }
+
+    pub fn decimal(self, n: u64) -> Line {
+        let mut digits = [0u8; 20];
+        let k = io::decimal(n, &mut digits);
+        self.put(b'+').text(&digits[..k])
+    }
+
+    // A text in which a digit right after = is a bit's number, and that bit of `byte` is shown in its place.
+    pub fn bits(self, template: &[u8], byte: u8) -> Line {
+        let mut line = self;
+        let mut named = false;
+        let mut i = 0;
+        while i < template.len() {
+            let next = template[i];
+            line = line.put(shown(named, next, byte));
+            named = next == b'=';
+            i += 1;
+        }
+        line
+    }
+
+    // ---- what was typed
+
+    // The word with a number, from 0 on; no bytes where the line has fewer words.
+    pub fn word(self, wanted: usize) -> Line {
+        let length = self.length();
+        let mut word = Line::new();
+        let mut index = 0;
+        let mut inside = false;
+        let mut i = 0;
+        while i < length {
+            let blank = is_blank(self.byte(i));
+            index += one(inside & blank);
+            word = word.put_if((index == wanted) & !blank, self.byte(i));
+            inside = !blank;
+            i += 1;
+        }
+        word
+    }
+
+    // How many words the line has.
+    pub fn words(self) -> usize
+        ensures { λ r. ⌜ r ≤ 160 ⌝ }
+    {
+        let length = self.length();
+        let mut count = 0;
+        let mut inside = false;
+        let mut i = 0;
+        while i < length {
+            let blank = is_blank(self.byte(i));
+            count += one(!inside & !blank);
+            inside = !blank;
+            i += 1;
+        }
+        count
+    }
+
+    // The line's bytes as one number, the first the most significant: of a long line its last eight.
+    pub fn key(self) -> u64 {
+        let length = self.length();
+        let mut key = 0;
+        let mut i = 0;
+        while i < length {
+            key = key % 72057594037927936 * 256 + wide(self.byte(i));
+            i += 1;
+        }
+        key
+    }
+
+    pub fn same(self, other: Line) -> bool {
+        let length = self.length();
+        if length != other.length() {
+            return false;
+        }
+        let mut i = 0;
+        while i < length {
+            if self.byte(i) != other.byte(i) {
+                return false;
+            }
+            i += 1;
+        }
+        true
+    }
+
+    // The number that the line is.
+    pub fn number(self) -> Number {
+        let bytes = self.all();
+        value_of(first(&bytes, self.used))
+    }
+}

@@ -1,0 +1,213 @@
+// The register pane: a row for each register and for what else a controller holds.
+// Every number is looked up in the image at the moment that the row is made.
+use crate::line::Line;
+use crate::places;
+ghost use mathlib.Core.Path.{_≡_};
+ghost use Prim.Native.Nat.{_+_, _*_, _<_, _≤_};
+ghost use lib.ListN.{length, getD};
+
+pub const ROWS: usize = 21;
+// Where a row's label ends: what follows differs from machine to machine.
+pub const LABEL: usize = 13;
+
+pub fn byte(s: &[u8], i: usize) -> u8
+    ensures { λ r. ⌜ r ≡ getD (now (s .entry)) i 0 ⌝ }
+{
+    if i < s.len() { s[i] } else { 0 }
+}
+
+// Two bytes, low byte first.
+pub fn word(s: &[u8], i: usize) -> u32
+    requires { ⌜ i < 32 ⌝ }
+    ensures { λ r. ⌜ r ≡ getD (now (s .entry)) i 0 + 256 * getD (now (s .entry)) (i + 1) 0 ⌝ }
+    ensures { λ r. ⌜ r ≤ 65535 ⌝ }
+{
+    (byte(s, i) as u32) + 256 * (byte(s, i + 1) as u32)
+}
+
+// Three bytes, low byte first.
+pub fn long(s: &[u8], i: usize) -> u32
+    requires { ⌜ i < 32 ⌝ }
+    ensures { λ r. ⌜ r ≡ getD (now (s .entry)) i 0 + 256 * getD (now (s .entry)) (i + 1) 0 + 65536 * getD (now (s .entry)) (i + 2) 0 ⌝ }
+{
+    word(s, i) + 65536 * (byte(s, i + 2) as u32)
+}
+
+pub fn copied(image: &[u8]) -> [u8; 34]
+    ensures { λ r. ⌜ 34 ≡ length r ⌝ }
+{
+    let mut copy = [0u8; 34];
+    let mut i = 0;
+    while i < 34 {
+        copy[i] = byte(image, i);
+        i += 1;
+    }
+    copy
+}
+
+// What a register holds.
+fn held(image: &[u8], register: u8) -> u8 {
+    (reu::reu_debug_register(image, register as u64) % 256) as u8
+}
+
+// What a read of the register would give, found on a copy: the machine is not touched.
+fn read_gives(image: &[u8], register: u8) -> u8 {
+    let mut copy = copied(image);
+    (reu::reu_read(&mut copy, register as u16) % 256) as u8
+}
+
+// ---- the registers
+
+fn name(register: u8) -> Line {
+    let line = Line::new().text(b"DF0").hex1(register);
+    match register {
+        0 => line.text(b" STATUS  "),
+        1 => line.text(b" COMMAND "),
+        2 => line.text(b" C64 LO  "),
+        3 => line.text(b" C64 HI  "),
+        4 => line.text(b" EXP LO  "),
+        5 => line.text(b" EXP HI  "),
+        6 => line.text(b" BANK    "),
+        7 => line.text(b" LEN LO  "),
+        8 => line.text(b" LEN HI  "),
+        9 => line.text(b" MASK    "),
+        _ => line.text(b" CONTROL "),
+    }
+}
+
+fn type_name(line: Line, kind: u8) -> Line {
+    match kind {
+        0 => line.text(b"store"),
+        1 => line.text(b"recall"),
+        2 => line.text(b"swap"),
+        _ => line.text(b"verify"),
+    }
+}
+
+fn command(line: Line, held: u8) -> Line {
+    type_name(line.bits(b" exec=7 load=5 now=4 ", held), held % 4)
+}
+
+// The visible counter of a pair, and its shadow.
+fn counter(line: Line, visible: u32, shadow: u32) -> Line {
+    line.hex4(visible).text(b" shadow ").hex4(shadow)
+}
+
+fn expansion(line: Line, visible: u32, shadow: u32) -> Line {
+    line.hex6(visible).text(b" shadow ").hex6(shadow)
+}
+
+fn spelled(line: Line, image: &[u8], register: u8) -> Line {
+    match register {
+        0 => line.bits(b" irq=7 end=6 err=5 ver=4", byte(image, places::STATUS)),
+        1 => command(line, byte(image, places::COMMAND)),
+        2 => counter(
+            line.text(b" c64 "),
+            word(image, places::C64_ADDRESS),
+            word(image, places::SHADOW_C64),
+        ),
+        4 => expansion(
+            line.text(b" exp "),
+            long(image, places::EXPANSION_ADDRESS),
+            long(image, places::SHADOW_EXPANSION),
+        ),
+        7 => counter(
+            line.text(b" len "),
+            word(image, places::LENGTH),
+            word(image, places::SHADOW_LENGTH),
+        ),
+        9 => line.bits(b" all=7 end=6 err=5", byte(image, places::INTERRUPT_MASK)),
+        10 => line.bits(b" fixc64=7 fixexp=6", byte(image, places::ADDRESS_CONTROL)),
+        _ => line,
+    }
+}
+
+fn register_row(image: &[u8], register: u8) -> Line {
+    let value = held(image, register);
+    let read = read_gives(image, register);
+    let line = spelled(name(register).hex2(value), image, register);
+    if read == value {
+        return line;
+    }
+    line.text(b" reads ").hex2(read)
+}
+
+// ---- beside the registers
+
+// Bytes 18 to 20 of the image: flags, more flags and the delay.
+fn flags_row(row: usize, flags: u8, more: u8, delay: u8) -> Line {
+    let line = Line::new();
+    match row {
+        11 => line.bits(b"interrupt    level=1", flags),
+        12 => line.bits(b"machine      enabled=0 attached=2 armed=3", flags),
+        13 => line.bits(b"BA history   washigh=4 latefall=7", flags),
+        14 => line.bits(b"BA rules     repeat=5 terminal=6", flags),
+        15 => line.bits(b"swap rules   refresh=0 release=1", more),
+        _ => line.text(b"delay        ").hex1(delay),
+    }
+}
+
+// ---- the transfer
+
+fn transfer_row(image: &[u8]) -> Line {
+    let line = Line::new().text(b"transfer     ");
+    if byte(image, places::TRANSFER) == 0 {
+        return line.text(b"none");
+    }
+    let typed = type_name(line, byte(image, places::TYPE));
+    if byte(image, places::PHASE) == 0 {
+        return typed.text(b", read phase");
+    }
+    typed.text(b", write phase")
+}
+
+fn place_row(c64: u32, expansion: u32, left: u32) -> Line {
+    Line::new()
+        .text(b"  at         c64 ")
+        .hex4(c64)
+        .text(b" exp ")
+        .hex6(expansion)
+        .text(b" left ")
+        .hex5(left)
+}
+
+// Nothing where there is no transfer.
+fn running_row(image: &[u8], row: usize) -> Line {
+    let line = Line::new();
+    if byte(image, places::TRANSFER) == 0 {
+        return line;
+    }
+    match row {
+        18 => place_row(
+            word(image, places::TRANSFER_C64),
+            long(image, places::TRANSFER_EXPANSION),
+            long(image, places::REMAINING),
+        ),
+        19 => line.text(b"  latch      ")
+            .hex2(byte(image, places::LATCH))
+            .bits(b" first=3 odd=4 tail=5", byte(image, places::OPTIONS)),
+        _ => line.bits(
+            b"  options    fixc64=0 fixexp=1 load=2",
+            byte(image, places::OPTIONS),
+        ),
+    }
+}
+
+// A row of the pane; rows 18 on are empty where no command runs.
+pub fn row(image: &[u8], row: usize) -> Line {
+    if row < 11 {
+        return register_row(image, row as u8);
+    }
+    if row < 17 {
+        return flags_row(
+            row,
+            byte(image, places::FLAGS),
+            byte(image, places::MORE_FLAGS),
+            byte(image, places::DELAY),
+        );
+    }
+    if row == 17 {
+        return transfer_row(image);
+    }
+    running_row(image, row)
+}
