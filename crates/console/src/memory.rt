@@ -37,7 +37,7 @@ pub fn place(line: Line, i: usize) -> usize {
     (value(line.word(1)) as usize) + (i - 2)
 }
 
-pub fn byte_of(line: Line, i: usize) -> u8 {
+pub(crate) fn byte_of(line: Line, i: usize) -> u8 {
     (value(line.word(i)) % 256) as u8
 }
 

@@ -369,7 +369,7 @@ fn obey(session: Session, image: &mut [u8], bus: &mut [u8], storage: &mut [u8]) 
 }
 
 // One cycle or one command, and then the rows of the pane that it changed.
-pub fn turn(
+pub(crate) fn turn(
     session: Session,
     fd: i32,
     image: &mut [u8],

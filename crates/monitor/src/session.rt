@@ -18,7 +18,7 @@ pub struct Session {
 }
 
 impl Session {
-    pub fn new(colour: bool, echo: bool) -> Session {
+    pub(crate) fn new(colour: bool, echo: bool) -> Session {
         Session {
             cycle: 0,
             left: 0,
@@ -31,18 +31,18 @@ impl Session {
         }
     }
 
-    pub fn end(mut self) -> Session {
+    pub(crate) fn end(mut self) -> Session {
         self.ended = true;
         self
     }
 
-    pub fn told(mut self, line: Line) -> Session {
+    pub(crate) fn told(mut self, line: Line) -> Session {
         self.line = line;
         self
     }
 
     // After a cycle. Cycle numbers have 64 bits, and after the last comes 0.
-    pub fn next(mut self) -> Session {
+    pub(crate) fn next(mut self) -> Session {
         let ba = self.ba;
         self.cycle = std::num::wrapping_add_u64(self.cycle, 1);
         if self.at < ba.used {
@@ -52,31 +52,31 @@ impl Session {
     }
 
     // One cycle fewer is to be stepped.
-    pub fn stepped(mut self) -> Session {
+    pub(crate) fn stepped(mut self) -> Session {
         if self.left > 0 {
             self.left -= 1;
         }
         self
     }
 
-    pub fn with_left(mut self, left: u32) -> Session {
+    pub(crate) fn with_left(mut self, left: u32) -> Session {
         self.left = left;
         self
     }
 
-    pub fn with_cycle(mut self, cycle: u64) -> Session {
+    pub(crate) fn with_cycle(mut self, cycle: u64) -> Session {
         self.cycle = cycle;
         self
     }
 
-    pub fn with_ba(mut self, ba: Line) -> Session {
+    pub(crate) fn with_ba(mut self, ba: Line) -> Session {
         self.ba = ba;
         self.at = 0;
         self
     }
 
     // The letter of the next cycle.
-    pub fn letter(self) -> u8 {
+    pub(crate) fn letter(self) -> u8 {
         let ba = self.ba;
         let at = self.at;
         if at < ba.used {
@@ -86,7 +86,7 @@ impl Session {
     }
 
     // The command as a number: see the table in commands.rt.
-    pub fn key(self) -> u64 {
+    pub(crate) fn key(self) -> u64 {
         let line = self.line;
         let word = line.word(0);
         word.key()

@@ -2,9 +2,8 @@
 use crate::session::Session;
 use console::output::say;
 use pane::line::Line;
-use pane::places::TRANSFER_EXPANSION;
 use pane::rows::byte;
-use pane::rows::long;
+use pane::rows::transfer_expansion;
 
 const TRANSFER: u32 = 2;
 
@@ -59,7 +58,7 @@ fn run_cycle(
         number,
     );
     let access = reu::reu_c64_access(image);
-    let offset = long(image, TRANSFER_EXPANSION) % STORAGE_SIZE;
+    let offset = transfer_expansion(image) % STORAGE_SIZE;
     if grant == TRANSFER {
         reu::reu_tick_dma(image, bus, storage, number, ba_low(letter));
     }
@@ -122,7 +121,12 @@ fn shown(session: Session, done: Cycle, bus: &[u8], storage: &[u8]) -> Line {
     bytes_there(line, on_bus, done.offset, stored)
 }
 
-pub fn step(session: Session, image: &mut [u8], bus: &mut [u8], storage: &mut [u8]) -> Session {
+pub(crate) fn step(
+    session: Session,
+    image: &mut [u8],
+    bus: &mut [u8],
+    storage: &mut [u8],
+) -> Session {
     let done = run_cycle(session.letter(), session.cycle, image, bus, storage);
     say(shown(session, done, bus, storage));
     session.next()
@@ -176,7 +180,7 @@ fn run_line(granted: u64, held: u64, running: bool) -> Line {
     line.text(b" held: the command has ended")
 }
 
-pub fn go(
+pub(crate) fn go(
     session: Session,
     image: &mut [u8],
     bus: &mut [u8],

@@ -17,7 +17,7 @@ pub fn byte(s: &[u8], i: usize) -> u8
 }
 
 // Two bytes, low byte first.
-pub fn word(s: &[u8], i: usize) -> u32
+fn word(s: &[u8], i: usize) -> u32
     requires { ⌜ i < 32 ⌝ }
     ensures { λ r. ⌜ r ≡ getD (now (s .entry)) i 0 + 256 * getD (now (s .entry)) (i + 1) 0 ⌝ }
     ensures { λ r. ⌜ r ≤ 65535 ⌝ }
@@ -26,11 +26,18 @@ pub fn word(s: &[u8], i: usize) -> u32
 }
 
 // Three bytes, low byte first.
-pub fn long(s: &[u8], i: usize) -> u32
+fn long(s: &[u8], i: usize) -> u32
     requires { ⌜ i < 32 ⌝ }
     ensures { λ r. ⌜ r ≡ getD (now (s .entry)) i 0 + 256 * getD (now (s .entry)) (i + 1) 0 + 65536 * getD (now (s .entry)) (i + 2) 0 ⌝ }
 {
     word(s, i) + 65536 * (byte(s, i + 2) as u32)
+}
+
+// The expansion address of the running transfer.
+pub fn transfer_expansion(image: &[u8]) -> u32
+    ensures { λ r. ⌜ r ≡ getD (now (image .entry)) 26 0 + 256 * getD (now (image .entry)) 27 0 + 65536 * getD (now (image .entry)) 28 0 ⌝ }
+{
+    long(image, places::TRANSFER_EXPANSION)
 }
 
 pub fn copied(image: &[u8]) -> [u8; 34]
