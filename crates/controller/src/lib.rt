@@ -22,6 +22,7 @@ pub use dma::SwapPhase;
 pub use dma::TransferType;
 pub use memory::C64Address;
 pub use memory::ExpansionAddress;
+pub use memory::clear;
 pub use reu::Answer;
 pub use reu::Reu;
 pub use reu::Stepped;

@@ -86,8 +86,8 @@ pub(crate) fn set_storage(storage: &mut [u8], addr: ExpansionAddress, value: u8)
     storage[at] = value;
 }
 
-// Every byte of the storage becomes 0.
-pub(crate) fn clear(storage: &mut [u8])
+// Every byte of the storage becomes 0: for a host too, that begins anew.
+pub fn clear(storage: &mut [u8])
     ensures { λ _. ⌜ now (storage .exit) ≡ zeros (now (storage .entry)) ⌝ }
 {
     let mut i = 0;
