@@ -6,13 +6,13 @@ use Prim.Native.Nat.{ℕ, suc, _+_, _*_, _≤_, _<_}
 use native.Mathlib.Numerals.{add-one}
 use native.Mathlib.Nat.{mul-le-mul}
 use native.Mathlib.Omega.{arith}
-use lib.Dec.{ltb, leb}
+use lib.Dec.{ltb, leb, eqb}
 use lib.ListN.{length, drop, getD, drop-of-length-le}
 use lib.Seq.{drop-cons}
-use borrow.Author.Tests.{lt-ltb, le-ltb, le-leb, lt-leb}
+use borrow.Author.Tests.{lt-ltb, le-ltb, le-leb, lt-leb, ltb-false}
 use Rattle.pane.specs.declared.number.Number.{Number}
 use Rattle.pane.specs.declared.number.Number.the-variants.{Value, TooLarge, Bad}
-use Rattle.pane.specs.Typed.{digitOf, digitsFrom, digitsOf}
+use Rattle.pane.specs.Typed.{digitOf, digitsFrom, digitsOf, numberOf, valueOf}
 
 -- what is left to say once a digit's value is known
 abbrev more : ℕ → ℕ → List ℕ → ℕ → Number
@@ -51,3 +51,37 @@ module _ (base from value i n : ℕ) (s : List ℕ) where
 -- a value of 24 bits times a base of at most 16
 pub bounded : (value base : ℕ) → value ≤ 16777215 → base ≤ 16 → value * base ≤ 16777215 * 16
 bounded value base h k = mul-le-mul h k
+
+-- ---- a number that was typed has at most 24 bits
+
+abbrev Small : Number → Type 0
+Small n = valueOf n ≤ 16777215
+
+-- one of two, by a test
+either : (t : Bool) (x y : Number) → Small x → (t ≡ false → Small y) → Small (cond t x y)
+either true x y p q = p
+either false x y p q = q refl
+
+from-small : (base value : ℕ) (s : List ℕ) → value ≤ 16777215 → Small (digitsFrom base value s)
+unfolding digitsFrom
+from-small base value [] h = h
+from-small base value (b ∷ s) h =
+    either (leb base (digitOf b)) _ _ (omega arith)
+    (λ _. either (ltb 16777215 (value * base + digitOf b)) _ _ (omega arith)
+    (λ t. from-small base (value * base + digitOf b) s (ltb-false _ _ t)))
+
+digits-small : (base : ℕ) (s : List ℕ) (from : ℕ) → Small (digitsOf base s from)
+digits-small base s from =
+    either (leb (length s) from) _ _ (omega arith) (λ _. from-small base 0 (drop from s) (omega arith))
+
+small : (s : List ℕ) → valueOf (numberOf s) ≤ 16777215
+unfolding numberOf
+small s =
+    either (eqb (length s) 0) _ _ (omega arith)
+    (λ _. either (eqb (getD s 0 0) 43) _ _ (digits-small 10 s 1)
+    (λ _. either (eqb (getD s 0 0) 36) _ _ (digits-small 16 s 1) (λ _. digits-small 16 s 0)))
+
+-- what is known of its value
+pub known :
+    (s : List ℕ) {n : ℕ} → n ≡ valueOf (numberOf s) → (n ≡ valueOf (numberOf s)) × (n ≤ 16777215)
+known s {n} e = (e, subst (λ (m : ℕ). m ≤ 16777215) (sym e) (small s))

@@ -1,2 +1,4 @@
+pub mod Faults
+pub mod Rows
 pub mod Shown
 pub mod Typed

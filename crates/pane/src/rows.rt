@@ -3,15 +3,19 @@
 use crate::line::Line;
 use crate::places;
 ghost use mathlib.Core.Path.{_≡_};
-ghost use Prim.Native.Nat.{_+_, _*_, _<_, _≤_};
-ghost use lib.ListN.{length, getD};
+ghost use mathlib.Core.List.{[]};
+ghost use Prim.Native.Nat.{_%_, _<_, _≤_};
+ghost use lib.ListN.{length};
+ghost use Rattle.pane.specs.Rows.{byteAt, copyOf, flagsRow, longAt, reads, registerName, registerRow, rowOf, runningRow, transferRow, typeName, wordAt};
+ghost use Rattle.pane.specs.Rows.{held as Rows·held, spelled as Rows·spelled};
+ghost use Rattle.pane.specs.Shown.{_⊕_, ascii, bitsOf, hexOf, textOf};
 
 pub const ROWS: usize = 21;
 // Where a row's label ends: what follows differs from machine to machine.
 pub const LABEL: usize = 13;
 
 pub fn byte(s: &[u8], i: usize) -> u8
-    ensures { λ r. ⌜ r ≡ getD (now (s .entry)) i 0 ⌝ }
+    ensures { λ r. ⌜ r ≡ byteAt (now (s .entry)) i ⌝ }
 {
     if i < s.len() { s[i] } else { 0 }
 }
@@ -19,7 +23,7 @@ pub fn byte(s: &[u8], i: usize) -> u8
 // Two bytes, low byte first.
 fn word(s: &[u8], i: usize) -> u32
     requires { ⌜ i < 32 ⌝ }
-    ensures { λ r. ⌜ r ≡ getD (now (s .entry)) i 0 + 256 * getD (now (s .entry)) (i + 1) 0 ⌝ }
+    ensures { λ r. ⌜ r ≡ wordAt (now (s .entry)) i ⌝ }
     ensures { λ r. ⌜ r ≤ 65535 ⌝ }
 {
     (byte(s, i) as u32) + 256 * (byte(s, i + 1) as u32)
@@ -28,19 +32,20 @@ fn word(s: &[u8], i: usize) -> u32
 // Three bytes, low byte first.
 fn long(s: &[u8], i: usize) -> u32
     requires { ⌜ i < 32 ⌝ }
-    ensures { λ r. ⌜ r ≡ getD (now (s .entry)) i 0 + 256 * getD (now (s .entry)) (i + 1) 0 + 65536 * getD (now (s .entry)) (i + 2) 0 ⌝ }
+    ensures { λ r. ⌜ r ≡ longAt (now (s .entry)) i ⌝ }
 {
     word(s, i) + 65536 * (byte(s, i + 2) as u32)
 }
 
 // The expansion address of the running transfer.
 pub fn transfer_expansion(image: &[u8]) -> u32
-    ensures { λ r. ⌜ r ≡ getD (now (image .entry)) 26 0 + 256 * getD (now (image .entry)) 27 0 + 65536 * getD (now (image .entry)) 28 0 ⌝ }
+    ensures { λ r. ⌜ r ≡ longAt (now (image .entry)) 26 ⌝ }
 {
     long(image, places::TRANSFER_EXPANSION)
 }
 
 pub fn copied(image: &[u8]) -> [u8; 34]
+    ensures { λ r. ⌜ r ≡ copyOf (now (image .entry)) ⌝ }
     ensures { λ r. ⌜ 34 ≡ length r ⌝ }
 {
     let mut copy = [0u8; 34];
@@ -53,19 +58,25 @@ pub fn copied(image: &[u8]) -> [u8; 34]
 }
 
 // What a register holds.
-fn held(image: &[u8], register: u8) -> u8 {
+fn held(image: &[u8], register: u8) -> u8
+    ensures { λ r. ⌜ r ≡ Rows·held (now (image .entry)) register ⌝ }
+{
     (reu::reu_debug_register(image, register as u64) % 256) as u8
 }
 
 // What a read of the register would give, found on a copy: the machine is not touched.
-fn read_gives(image: &[u8], register: u8) -> u8 {
+fn read_gives(image: &[u8], register: u8) -> u8
+    ensures { λ r. ⌜ r ≡ reads (now (image .entry)) register ⌝ }
+{
     let mut copy = copied(image);
     (reu::reu_read(&mut copy, register as u16) % 256) as u8
 }
 
 // ---- the registers
 
-fn name(register: u8) -> Line {
+fn name(register: u8) -> Line
+    ensures { λ r. ⌜ textOf r ≡ [] ⊕ ascii "DF0" ⊕ hexOf 1 register ⊕ registerName register ⌝ }
+{
     let line = Line::new().text(b"DF0").hex1(register);
     match register {
         0 => line.text(b" STATUS  "),
@@ -82,7 +93,9 @@ fn name(register: u8) -> Line {
     }
 }
 
-fn type_name(line: Line, kind: u8) -> Line {
+fn type_name(line: Line, kind: u8) -> Line
+    ensures { λ r. ⌜ textOf r ≡ textOf line ⊕ typeName kind ⌝ }
+{
     match kind {
         0 => line.text(b"store"),
         1 => line.text(b"recall"),
@@ -91,20 +104,28 @@ fn type_name(line: Line, kind: u8) -> Line {
     }
 }
 
-fn command(line: Line, held: u8) -> Line {
+fn command(line: Line, held: u8) -> Line
+    ensures { λ r. ⌜ textOf r ≡ textOf line ⊕ bitsOf " exec=7 load=5 now=4 " held ⊕ typeName (held % 4) ⌝ }
+{
     type_name(line.bits(b" exec=7 load=5 now=4 ", held), held % 4)
 }
 
 // The visible counter of a pair, and its shadow.
-fn counter(line: Line, visible: u32, shadow: u32) -> Line {
+fn counter(line: Line, visible: u32, shadow: u32) -> Line
+    ensures { λ r. ⌜ textOf r ≡ textOf line ⊕ hexOf 4 visible ⊕ ascii " shadow " ⊕ hexOf 4 shadow ⌝ }
+{
     line.hex4(visible).text(b" shadow ").hex4(shadow)
 }
 
-fn expansion(line: Line, visible: u32, shadow: u32) -> Line {
+fn expansion(line: Line, visible: u32, shadow: u32) -> Line
+    ensures { λ r. ⌜ textOf r ≡ textOf line ⊕ hexOf 6 visible ⊕ ascii " shadow " ⊕ hexOf 6 shadow ⌝ }
+{
     line.hex6(visible).text(b" shadow ").hex6(shadow)
 }
 
-fn spelled(line: Line, image: &[u8], register: u8) -> Line {
+fn spelled(line: Line, image: &[u8], register: u8) -> Line
+    ensures { λ r. ⌜ textOf r ≡ Rows·spelled (now (image .entry)) register (textOf line) ⌝ }
+{
     match register {
         0 => line.bits(b" irq=7 end=6 err=5 ver=4", byte(image, places::STATUS)),
         1 => command(line, byte(image, places::COMMAND)),
@@ -129,7 +150,9 @@ fn spelled(line: Line, image: &[u8], register: u8) -> Line {
     }
 }
 
-fn register_row(image: &[u8], register: u8) -> Line {
+fn register_row(image: &[u8], register: u8) -> Line
+    ensures { λ r. ⌜ textOf r ≡ registerRow (now (image .entry)) register ⌝ }
+{
     let value = held(image, register);
     let read = read_gives(image, register);
     let line = spelled(name(register).hex2(value), image, register);
@@ -142,21 +165,29 @@ fn register_row(image: &[u8], register: u8) -> Line {
 // ---- beside the registers
 
 // Bytes 18 to 20 of the image: flags, more flags and the delay.
-fn flags_row(row: usize, flags: u8, more: u8, delay: u8) -> Line {
+fn flags_row(image: &[u8], row: usize) -> Line
+    ensures { λ r. ⌜ textOf r ≡ flagsRow (now (image .entry)) row ⌝ }
+{
     let line = Line::new();
+    let flags = byte(image, places::FLAGS);
     match row {
         11 => line.bits(b"interrupt    level=1", flags),
         12 => line.bits(b"machine      enabled=0 attached=2 armed=3", flags),
         13 => line.bits(b"BA history   washigh=4 latefall=7", flags),
         14 => line.bits(b"BA rules     repeat=5 terminal=6", flags),
-        15 => line.bits(b"swap rules   refresh=0 release=1", more),
-        _ => line.text(b"delay        ").hex1(delay),
+        15 => line.bits(
+            b"swap rules   refresh=0 release=1",
+            byte(image, places::MORE_FLAGS),
+        ),
+        _ => line.text(b"delay        ").hex1(byte(image, places::DELAY)),
     }
 }
 
 // ---- the transfer
 
-fn transfer_row(image: &[u8]) -> Line {
+fn transfer_row(image: &[u8]) -> Line
+    ensures { λ r. ⌜ textOf r ≡ transferRow (now (image .entry)) ⌝ }
+{
     let line = Line::new().text(b"transfer     ");
     if byte(image, places::TRANSFER) == 0 {
         return line.text(b"none");
@@ -168,7 +199,9 @@ fn transfer_row(image: &[u8]) -> Line {
     typed.text(b", write phase")
 }
 
-fn place_row(c64: u32, expansion: u32, left: u32) -> Line {
+fn place_row(c64: u32, expansion: u32, left: u32) -> Line
+    ensures { λ r. ⌜ textOf r ≡ [] ⊕ ascii "  at         c64 " ⊕ hexOf 4 c64 ⊕ ascii " exp " ⊕ hexOf 6 expansion ⊕ ascii " left " ⊕ hexOf 5 left ⌝ }
+{
     Line::new()
         .text(b"  at         c64 ")
         .hex4(c64)
@@ -179,7 +212,9 @@ fn place_row(c64: u32, expansion: u32, left: u32) -> Line {
 }
 
 // Nothing where there is no transfer.
-fn running_row(image: &[u8], row: usize) -> Line {
+fn running_row(image: &[u8], row: usize) -> Line
+    ensures { λ r. ⌜ textOf r ≡ runningRow (now (image .entry)) row ⌝ }
+{
     let line = Line::new();
     if byte(image, places::TRANSFER) == 0 {
         return line;
@@ -201,17 +236,14 @@ fn running_row(image: &[u8], row: usize) -> Line {
 }
 
 // A row of the pane; rows 18 on are empty where no command runs.
-pub fn row(image: &[u8], row: usize) -> Line {
+pub fn row(image: &[u8], row: usize) -> Line
+    ensures { λ r. ⌜ textOf r ≡ rowOf (now (image .entry)) row ⌝ }
+{
     if row < 11 {
         return register_row(image, row as u8);
     }
     if row < 17 {
-        return flags_row(
-            row,
-            byte(image, places::FLAGS),
-            byte(image, places::MORE_FLAGS),
-            byte(image, places::DELAY),
-        );
+        return flags_row(image, row);
     }
     if row == 17 {
         return transfer_row(image);

@@ -1,14 +1,14 @@
 use mathlib.Core.Path.{_≡_, _∙_, ap}
-use mathlib.Core.List.{[], _∷_, _++_}
+use mathlib.Core.List.{[], _∷_}
 use Prim.Native.Nat.{ℕ}
-use Rattle.pane.specs.Shown.{cut, textOf, hexOf}
+use Rattle.pane.specs.Shown.{_⊕_, textOf, hexOf}
 use borrow.Author.Needs.{needs}
 use Rattle.pane.proofs.line.Line.hex1.Statement.{statement}
 use Rattle.pane.proofs.line.Line.hex1.Tie as tie
 
 returns : tie.Need-returns
 unfolding hexOf
-returns c = c .put .ensures ∙ ap (λ (d : ℕ). cut (textOf (c .before .before .args .self) ++ (d ∷ []))) (c .before .glyph .ensures)
+returns c = c .put .ensures ∙ ap (λ (d : ℕ). textOf (c .before .before .args .self) ⊕ (d ∷ [])) (c .before .glyph .ensures)
 
 pub hex1-spec : {M : Type 1} → statement M
 hex1-spec =

@@ -1,14 +1,14 @@
 use Prim.Native.Nat.{ℕ, _/_, _%_}
-use Rattle.pane.specs.Shown.{cut, textOf, hexOf}
+use Rattle.pane.specs.Shown.{_⊕_, textOf, hexOf}
 use mathlib.Core.Path.{_≡_, _∙_, ap}
-use mathlib.Core.List.{List, _++_}
+use mathlib.Core.List.{List}
 use Rattle.pane.proofs.Cuts.{joined, five}
 use borrow.Author.Needs.{needs}
 use Rattle.pane.proofs.line.Line.hex5.Statement.{statement}
 use Rattle.pane.proofs.line.Line.hex5.Tie as tie
 
 returns : tie.Need-returns
-returns c = joined (textOf (c .before .before .args .self)) (hexOf 1 (c .before .before .args .n / 65536 % 16)) (hexOf 4 (c .before .before .args .n)) (c .before .hex1 .ensures) (c .hex4 .ensures) ∙ ap (λ (d : List ℕ). cut (textOf (c .before .before .args .self) ++ d)) (five (c .before .before .args .n))
+returns c = joined (textOf (c .before .before .args .self)) (hexOf 1 (c .before .before .args .n / 65536 % 16)) (hexOf 4 (c .before .before .args .n)) (c .before .hex1 .ensures) (c .hex4 .ensures) ∙ ap (λ (d : List ℕ). textOf (c .before .before .args .self) ⊕ d) (five (c .before .before .args .n))
 
 pub hex5-spec : {M : Type 1} → statement M
 hex5-spec =

@@ -1,14 +1,14 @@
 use Prim.Native.Nat.{ℕ, _/_, _%_}
-use Rattle.pane.specs.Shown.{cut, textOf, hexOf}
+use Rattle.pane.specs.Shown.{_⊕_, textOf, hexOf}
 use mathlib.Core.Path.{_≡_, _∙_, ap}
-use mathlib.Core.List.{List, _++_}
+use mathlib.Core.List.{List}
 use Rattle.pane.proofs.Cuts.{joined, six}
 use borrow.Author.Needs.{needs}
 use Rattle.pane.proofs.line.Line.hex6.Statement.{statement}
 use Rattle.pane.proofs.line.Line.hex6.Tie as tie
 
 returns : tie.Need-returns
-returns c = joined (textOf (c .before .before .args .self)) (hexOf 2 (c .before .before .args .n / 65536 % 256)) (hexOf 4 (c .before .before .args .n)) (c .before .hex2 .ensures) (c .hex4 .ensures) ∙ ap (λ (d : List ℕ). cut (textOf (c .before .before .args .self) ++ d)) (six (c .before .before .args .n))
+returns c = joined (textOf (c .before .before .args .self)) (hexOf 2 (c .before .before .args .n / 65536 % 256)) (hexOf 4 (c .before .before .args .n)) (c .before .hex2 .ensures) (c .hex4 .ensures) ∙ ap (λ (d : List ℕ). textOf (c .before .before .args .self) ⊕ d) (six (c .before .before .args .n))
 
 pub hex6-spec : {M : Type 1} → statement M
 hex6-spec =

@@ -1,28 +1,32 @@
-use mathlib.Core.Path.{_≡_, _∙_, ap}
-use mathlib.Core.List.{List, _++_}
-use Prim.Native.Nat.{ℕ, _-_, _≤_}
+use Prim.Native.Nat.{_-_}
 use native.Mathlib.Omega.{arith}
-use lib.ListN.{length, take}
+use native.Mathlib.Numerals.{add-one}
+use lib.ListN.{length, drop, drop-of-length-le}
+use lib.Seq.{drop-cons}
 use borrow.Author.Needs.{needs}
-use Rattle.pane.specs.Shown.{cut, textOf}
-use Rattle.pane.proofs.Cuts.{more, none, whole}
+use Rattle.pane.specs.Shown.{_⊕_, textOf}
+use Rattle.pane.proofs.Cuts.{Left, begun, onward, ended, none}
 use Rattle.pane.proofs.line.Line.text.Statement.{statement}
 use Rattle.pane.proofs.line.Line.text.Tie as tie
 
 abbrev Inv-loop : tie.InvT-loop
-Inv-loop s line₀ i₀ line i = (i ≤ length s) × (textOf line ≡ cut (textOf line₀ ++ take i s))
+Inv-loop s line₀ i₀ line i = Left (textOf line₀ ⊕ s) (textOf line) (drop i s)
 
 abbrev μ-loop : tie.MeasureT-loop
 μ-loop s line₀ i₀ line i = length s - i
 
 loop-holds : tie.Need-loop-holds Inv-loop μ-loop
-loop-holds c = let n : length (c .before .args .self .bytes) ≡ 160 = search needs in (omega arith, none (c .before .args .self .bytes) (c .before .args .self .used) n)
+loop-holds c = search (needs, begun, none)
 
 loop-again : tie.Need-loop-again Inv-loop μ-loop
-loop-again c = (omega arith, more (textOf (c .before .before .before .before .before .args .self)) (c .before .before .before .before .before .args .s .now) (c .before .before .before .loop .i) (c .before .before .loop-test .taken) (c .before .before .before .loop .inv .1) (c .put .ensures))
+loop-again c =
+    let its-loop = c .before .before .before .loop in
+    onward _ _ _
+    (rw add-one (drop-cons (c .before .before .before .before .before .args .s .now) (its-loop .i) 0 (c .before .before .loop-test .taken)))
+    (its-loop .inv) (c .put .ensures)
 
 returns : tie.Need-returns Inv-loop μ-loop
-returns c = whole (textOf (c .before .before .before .args .self)) (c .before .before .before .args .s .now) (c .before .loop .i) (c .loop-test .left) (c .before .loop .inv .1)
+returns c = ended (drop-of-length-le (c .before .before .before .args .s .now) {i = c .before .loop .i} (c .loop-test .left)) (c .before .loop .inv)
 
 pub text-spec : {M : Type 1} → statement M
 text-spec =

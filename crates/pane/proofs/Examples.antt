@@ -1,0 +1,89 @@
+-- Worked examples of the definitions, with what was expected written by hand: words, numbers, and rows of images.
+use mathlib.Core.Path.{_≡_, refl}
+use mathlib.Core.List.{List, [], _∷_, _++_}
+use Prim.Native.Nat.{ℕ}
+use lib.ListN.{replicate}
+use Rattle.pane.specs.declared.number.Number.the-variants.{Value, TooLarge, Bad}
+use Rattle.pane.specs.Faults.{faultOf, faultsFrom, faultsOf}
+use Rattle.pane.specs.Rows.{flagsRow, runningRow, transferRow}
+use Rattle.pane.specs.Shown.{_⊕_, ascii, bitsFrom, bitsOf, decimalOf, decimalUpTo, fillFrom, hexOf}
+use Rattle.pane.specs.Typed.{digitsFrom, keyFrom, keyOf, numberOf, wordFrom, wordOf, wordsFrom, wordsOf}
+
+-- ---- what is typed
+
+second-word : wordOf 1 (ascii "w  DF02 00") ≡ ascii "DF02"
+unfolding wordFrom
+second-word = refl
+
+three-words : wordsOf (ascii " w DF02 00 ") ≡ 3
+unfolding wordsFrom
+three-words = refl
+
+key-of-save : keyOf (ascii "save") ≡ 0x73617665
+unfolding keyFrom
+key-of-save = refl
+
+sixteen : numberOf (ascii "+16") ≡ Value 16
+unfolding digitsFrom numberOf
+sixteen = refl
+
+with-dollar : numberOf (ascii "$10") ≡ Value 16
+unfolding digitsFrom numberOf
+with-dollar = refl
+
+no-digit : numberOf (ascii "1G") ≡ Bad
+unfolding digitsFrom numberOf
+no-digit = refl
+
+too-many-bits : numberOf (ascii "1000000") ≡ TooLarge
+unfolding digitsFrom numberOf
+too-many-bits = refl
+
+second-number-is-bad :
+    faultsOf (ascii "> 1000 11 1G") 2 255
+    ≡ ascii "bad number: 1G (hexadecimal, $ optional; decimal with a leading +)"
+unfolding faultsFrom faultOf wordsFrom wordFrom numberOf digitsFrom fillFrom _⊕_
+second-number-is-bad = refl
+
+-- ---- what is shown
+
+an-address : hexOf 4 0xDF0A ≡ ascii "DF0A"
+unfolding hexOf
+an-address = refl
+
+a-cycle : decimalOf 105 ≡ ascii "+105"
+unfolding decimalUpTo
+a-cycle = refl
+
+the-first-cycle : decimalOf 0 ≡ ascii "+0"
+unfolding decimalUpTo
+the-first-cycle = refl
+
+end-of-block : bitsOf " irq=7 end=6 err=5 ver=4" 0x50 ≡ ascii " irq=0 end=1 err=0 ver=1"
+unfolding bitsFrom
+end-of-block = refl
+
+-- flags 0D: enabled, attached, armed; a swap of two bytes in its write phase at bus 2000 and expansion F80000
+unfoldable image : List ℕ
+image =
+    replicate 18 0 ++ (0x0D ∷ 0 ∷ 0 ∷ 1 ∷ 2 ∷ 1 ∷ 0x00 ∷ 0x20 ∷ 0x00 ∷ 0x00 ∷ 0xF8 ∷ 2 ∷ 0 ∷ 0 ∷ 0x33 ∷ 0x1C ∷ [])
+
+armed : flagsRow image 12 ≡ ascii "machine      enabled=1 attached=1 armed=1"
+unfolding image flagsRow bitsFrom _⊕_
+armed = refl
+
+swaps : transferRow image ≡ ascii "transfer     swap, write phase"
+unfolding image transferRow _⊕_
+swaps = refl
+
+place : runningRow image 18 ≡ ascii "  at         c64 2000 exp F80000 left 00002"
+unfolding image runningRow hexOf _⊕_
+place = refl
+
+latch : runningRow image 19 ≡ ascii "  latch      33 first=1 odd=1 tail=0"
+unfolding image runningRow bitsFrom hexOf _⊕_
+latch = refl
+
+options : runningRow image 20 ≡ ascii "  options    fixc64=0 fixexp=0 load=1"
+unfolding image runningRow bitsFrom _⊕_
+options = refl

@@ -1,0 +1,102 @@
+-- The register pane, row by row: which bytes of an image each row shows, and how they are spelled.
+-- The places of the bytes are those of document 01's image record.
+use Prim.Native.Nat.{ℕ, _+_, _*_, _%_}
+use mathlib.Core.Bool.{cond}
+use mathlib.Core.List.{List, [], _∷_, _++_}
+use lib.Dec.{eqb, ltb}
+use lib.ListN.{getD, take, replicate}
+use Rattle.reu.specs.Exports.{reuDebugRegister, reuRead}
+use Rattle.pane.specs.Shown.{_⊕_, ascii, bitsOf, hexOf}
+
+-- ---- numbers of one, two and three bytes, low byte first
+
+abbrev pub byteAt : List ℕ → ℕ → ℕ
+byteAt i p = getD i p 0
+
+abbrev pub wordAt : List ℕ → ℕ → ℕ
+wordAt i p = byteAt i p + 256 * byteAt i (p + 1)
+
+abbrev pub longAt : List ℕ → ℕ → ℕ
+longAt i p = wordAt i p + 65536 * byteAt i (p + 2)
+
+-- ---- registers
+
+-- what a register holds
+abbrev pub held : List ℕ → ℕ → ℕ
+held i n = reuDebugRegister i n % 256
+
+-- 34 bytes of an image, 00 where it has fewer
+abbrev pub copyOf : List ℕ → List ℕ
+copyOf i = take 34 (i ++ replicate 34 0)
+
+-- what a read of the register would give, of a copy
+abbrev pub reads : List ℕ → ℕ → ℕ
+reads i n = reuRead (copyOf i) n .0 % 256
+
+abbrev pub registerName : ℕ → List ℕ
+registerName n =
+    getD
+    (ascii " STATUS  " ∷ ascii " COMMAND " ∷ ascii " C64 LO  " ∷ ascii " C64 HI  " ∷ ascii " EXP LO  "
+    ∷ ascii " EXP HI  " ∷ ascii " BANK    " ∷ ascii " LEN LO  " ∷ ascii " LEN HI  " ∷ ascii " MASK    " ∷ [])
+    n (ascii " CONTROL ")
+
+-- the four transfer types, by the low two bits of the command register
+abbrev pub typeName : ℕ → List ℕ
+typeName k = getD (ascii "store" ∷ ascii "recall" ∷ ascii "swap" ∷ []) k (ascii "verify")
+
+-- what is spelled out behind a register's value: its bits, or, at the low byte of a pair, the counter and its shadow
+unfoldable pub spelled : List ℕ → ℕ → List ℕ → List ℕ
+spelled i n t =
+    cond (eqb n 0) (t ⊕ bitsOf " irq=7 end=6 err=5 ver=4" (byteAt i 0))
+    (cond (eqb n 1) (t ⊕ bitsOf " exec=7 load=5 now=4 " (byteAt i 1) ⊕ typeName (byteAt i 1 % 4))
+    (cond (eqb n 2) (t ⊕ ascii " c64 " ⊕ hexOf 4 (wordAt i 2) ⊕ ascii " shadow " ⊕ hexOf 4 (wordAt i 11))
+    (cond (eqb n 4) (t ⊕ ascii " exp " ⊕ hexOf 6 (longAt i 4) ⊕ ascii " shadow " ⊕ hexOf 6 (longAt i 13))
+    (cond (eqb n 7) (t ⊕ ascii " len " ⊕ hexOf 4 (wordAt i 7) ⊕ ascii " shadow " ⊕ hexOf 4 (wordAt i 16))
+    (cond (eqb n 9) (t ⊕ bitsOf " all=7 end=6 err=5" (byteAt i 9))
+    (cond (eqb n 10) (t ⊕ bitsOf " fixc64=7 fixexp=6" (byteAt i 10)) t))))))
+
+-- a register by its address and name, what it holds, what that means, and what a read would give where that differs
+unfoldable pub registerRow : List ℕ → ℕ → List ℕ
+registerRow i n =
+    let t : List ℕ = spelled i n ([] ⊕ ascii "DF0" ⊕ hexOf 1 n ⊕ registerName n ⊕ hexOf 2 (held i n)) in
+    cond (eqb (reads i n) (held i n)) t (t ⊕ ascii " reads " ⊕ hexOf 2 (reads i n))
+
+-- ---- flags: bytes 18 and 19 of the image, and the delay in byte 20
+
+unfoldable pub flagsRow : List ℕ → ℕ → List ℕ
+flagsRow i n =
+    cond (eqb n 11) ([] ⊕ bitsOf "interrupt    level=1" (byteAt i 18))
+    (cond (eqb n 12) ([] ⊕ bitsOf "machine      enabled=0 attached=2 armed=3" (byteAt i 18))
+    (cond (eqb n 13) ([] ⊕ bitsOf "BA history   washigh=4 latefall=7" (byteAt i 18))
+    (cond (eqb n 14) ([] ⊕ bitsOf "BA rules     repeat=5 terminal=6" (byteAt i 18))
+    (cond (eqb n 15) ([] ⊕ bitsOf "swap rules   refresh=0 release=1" (byteAt i 19))
+    ([] ⊕ ascii "delay        " ⊕ hexOf 1 (byteAt i 20))))))
+
+-- ---- the transfer: bytes 21 to 33
+
+-- its type and phase
+unfoldable pub transferRow : List ℕ → List ℕ
+transferRow i =
+    let t : List ℕ = [] ⊕ ascii "transfer     " in
+    cond (eqb (byteAt i 21) 0) (t ⊕ ascii "none")
+    (cond (eqb (byteAt i 23) 0) (t ⊕ typeName (byteAt i 22) ⊕ ascii ", read phase")
+    (t ⊕ typeName (byteAt i 22) ⊕ ascii ", write phase"))
+
+-- its addresses and what remains; its latch and state; its options. No bytes where there is no transfer
+unfoldable pub runningRow : List ℕ → ℕ → List ℕ
+runningRow i n =
+    cond (eqb (byteAt i 21) 0) []
+    (cond (eqb n 18)
+    ([] ⊕ ascii "  at         c64 " ⊕ hexOf 4 (wordAt i 24) ⊕ ascii " exp " ⊕ hexOf 6 (longAt i 26) ⊕ ascii " left "
+    ⊕ hexOf 5 (longAt i 29))
+    (cond (eqb n 19)
+    ([] ⊕ ascii "  latch      " ⊕ hexOf 2 (byteAt i 32) ⊕ bitsOf " first=3 odd=4 tail=5" (byteAt i 33))
+    ([] ⊕ bitsOf "  options    fixc64=0 fixexp=1 load=2" (byteAt i 33))))
+
+-- ---- all of them
+
+unfoldable pub rowOf : List ℕ → ℕ → List ℕ
+rowOf i n =
+    cond (ltb n 11) (registerRow i n)
+    (cond (ltb n 17) (flagsRow i n)
+    (cond (eqb n 17) (transferRow i) (runningRow i n)))
