@@ -1,7 +1,10 @@
-// The monitor's commands on a machine's parts: registers, bytes of the bus and the storage, files; and its lines in and out.
-pub mod files;
-pub mod help;
-pub mod input;
+// The monitor's commands on a machine's parts, without input and output: what is wrong with a line, what it does to registers, bus and storage,
+// bus cycles, and the lines to show.
+pub mod apply;
+pub mod beside;
+pub mod clock;
+pub mod commands;
+pub mod keys;
 pub mod memory;
-pub mod output;
 pub mod registers;
+pub mod step;

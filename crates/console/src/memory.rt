@@ -1,63 +1,75 @@
 // Bytes of the bus and of the storage, and the words of a line as bytes.
-use crate::output::say;
 use pane::faults::fault;
 use pane::faults::faults;
 use pane::faults::value;
 use pane::line::Line;
 use pane::line::fill;
 use pane::rows::byte;
+ghost use mathlib.Core.Path.{_≡_};
+ghost use mathlib.Core.Bool.{cond};
+ghost use Prim.Native.Nat.{_+_, _-_, _≤_, min};
+ghost use lib.Dec.{leb};
+ghost use lib.ListN.{length};
+ghost use lib.ListN.{set as ListN·set};
+ghost use Rattle.pane.specs.Rows.{byteAt};
+ghost use Rattle.pane.specs.Shown.{_⊕_, ascii, hexOf, textOf};
+ghost use Rattle.console.specs.Memory.{address, addressText, bytesLine, endOf, rangeFault, showFault, storeFault, stored, typed};
 
 const PER_LINE: usize = 16;
 // How many more bytes are shown where no end is given.
 const SHOWN: u32 = 63;
 
-fn put(s: &mut [u8], i: usize, value: u8) {
+fn put(s: &mut [u8], i: usize, value: u8)
+    ensures { λ _. ⌜ now (s .exit) ≡ ListN·set (now (s .entry)) i value ⌝ }
+{
     if i < s.len() {
         s[i] = value;
     }
 }
 
-// Every byte is 0.
-pub fn clear(s: &mut [u8]) {
-    for i in 0..s.len() {
-        s[i] = 0;
-    }
+// The address that the second word of a line is.
+pub fn address_of(line: Line) -> u32
+    ensures { λ r. ⌜ r ≡ address (textOf line) ⌝ }
+    ensures { λ r. ⌜ r ≤ 16777215 ⌝ }
+{
+    value(line.word(1))
+}
+
+// The byte that a word is.
+pub(crate) fn byte_of(line: Line, i: usize) -> u8
+    ensures { λ r. ⌜ r ≡ typed (textOf line) i ⌝ }
+{
+    (value(line.word(i)) % 256) as u8
 }
 
 // ---- > and >s
 
-// Where the byte of a word belongs: the third word's at the address that the second is, and so on.
-pub fn place(line: Line, i: usize) -> usize {
-    if i < 2 {
-        return 0;
-    }
-    if 160 < i {
-        return 0;
-    }
-    (value(line.word(1)) as usize) + (i - 2)
-}
-
-pub(crate) fn byte_of(line: Line, i: usize) -> u8 {
-    (value(line.word(i)) % 256) as u8
-}
-
-pub fn store(line: Line, memory: &mut [u8]) {
-    for i in 2..line.words() {
-        put(memory, place(line, i), byte_of(line, i));
+// The third word's byte goes to the address, the fourth's to the next, and so on.
+pub fn store(line: Line, memory: &mut [u8])
+    ensures { λ _. ⌜ now (memory .exit) ≡ stored (textOf line) (now (memory .entry)) ⌝ }
+{
+    let from = address_of(line) as usize;
+    let words = line.words();
+    let mut i = 2;
+    while i < words {
+        put(memory, from + (i - 2), byte_of(line, i));
+        i += 1;
     }
 }
 
 // What is wrong with an address and bytes after it: no bytes where nothing is.
-pub fn store_fault(line: Line, most: u32) -> Line {
+pub fn store_fault(line: Line, most: u32) -> Line
+    ensures { λ r. ⌜ textOf r ≡ storeFault (textOf line) most ⌝ }
+{
     let words = line.words();
     if words < 3 {
         return fill(b"usage: % ADDR BYTE..", line.word(0));
     }
-    let address = fault(line.word(1), most);
-    if address.used > 0 {
-        return address;
+    let found = fault(line.word(1), most);
+    if !found.is_empty() {
+        return found;
     }
-    if place(line, words - 1) > (most as usize) {
+    if (most as usize) < (address_of(line) as usize) + (words - 3) {
         return fill(b"% runs past the last address", line.word(0));
     }
     faults(line, 2, 255)
@@ -66,71 +78,76 @@ pub fn store_fault(line: Line, most: u32) -> Line {
 // ---- m and ms
 
 // The address as the command that puts bytes there has it.
-fn address_of(storage: bool, address: u32) -> Line {
+fn address_text(storage: bool, address: u32) -> Line
+    ensures { λ r. ⌜ textOf r ≡ addressText storage address ⌝ }
+{
     if storage {
         return Line::new().text(b">s ").hex5(address);
     }
     Line::new().text(b"> ").hex4(address)
 }
 
-fn byte_up_to(line: Line, memory: &[u8], at: usize, end: usize) -> Line {
+fn byte_up_to(line: Line, memory: &[u8], at: usize, end: usize) -> Line
+    ensures { λ r. ⌜ textOf r ≡ cond (leb at end) (textOf line ⊕ ascii " " ⊕ hexOf 2 (byteAt (now (memory .entry)) at)) (textOf line) ⌝ }
+{
     if at <= end {
-        return line.put(b' ').hex2(byte(memory, at));
+        return line.text(b" ").hex2(byte(memory, at));
     }
     line
 }
 
-fn bytes_line(storage: bool, memory: &[u8], from: u32, end: usize) -> Line {
-    let mut line = address_of(storage, from);
-    for i in 0..PER_LINE {
-        line = byte_up_to(line, memory, (from as usize) + i, end);
+// A line of bytes, from an address on and not past `end`.
+pub fn bytes_line(storage: bool, memory: &[u8], from: u32, end: u32) -> Line
+    ensures { λ r. ⌜ textOf r ≡ bytesLine storage (now (memory .entry)) from end ⌝ }
+{
+    let mut line = address_text(storage, from);
+    let mut i = 0;
+    while i < PER_LINE {
+        line = byte_up_to(line, memory, (from as usize) + i, end as usize);
+        i += 1;
     }
     line
 }
 
-fn bytes_lines(storage: bool, memory: &[u8], from: u32, end: u32) {
-    let mut at = from;
-    while at <= end {
-        say(bytes_line(storage, memory, at, end as usize));
-        if 0xFFFFFF < at {
-            return;
-        }
-        at += 16;
-    }
-}
-
-fn least(a: u32, b: u32) -> u32 {
+fn least(a: u32, b: u32) -> u32
+    ensures { λ r. ⌜ r ≡ min a b ⌝ }
+{
     if a < b { a } else { b }
 }
 
 // The last address to show.
-fn end_of(line: Line, most: u32) -> u32 {
+pub fn end_of(line: Line, most: u32) -> u32
+    ensures { λ r. ⌜ r ≡ endOf (textOf line) most ⌝ }
+{
     if line.words() == 3 {
         return value(line.word(2));
     }
-    least(value(line.word(1)) % 16777216 + SHOWN, most)
+    least(address_of(line) + SHOWN, most)
 }
 
-pub fn show_fault(line: Line, most: u32) -> Line {
-    let words = line.words();
-    if (words < 2) | (words > 3) {
-        return fill(b"usage: % ADDR [END]", line.word(0));
-    }
+fn range_fault(line: Line, most: u32) -> Line
+    ensures { λ r. ⌜ textOf r ≡ rangeFault (textOf line) most ⌝ }
+{
     let found = faults(line, 1, most);
-    if found.used > 0 {
+    if !found.is_empty() {
         return found;
     }
-    if end_of(line, most) < value(line.word(1)) {
+    if end_of(line, most) < address_of(line) {
         return fill(b"%: END is below ADDR", line.word(0));
     }
-    found
+    Line::new()
 }
 
-pub fn show(line: Line, memory: &[u8], most: u32) {
-    bytes_lines(
-        most > 65535,
-        memory,
-        value(line.word(1)),
-        end_of(line, most),
-    );
+// What is wrong with an address and an end that may be left out.
+pub fn show_fault(line: Line, most: u32) -> Line
+    ensures { λ r. ⌜ textOf r ≡ showFault (textOf line) most ⌝ }
+{
+    let words = line.words();
+    if words == 2 {
+        return range_fault(line, most);
+    }
+    if words == 3 {
+        return range_fault(line, most);
+    }
+    fill(b"usage: % ADDR [END]", line.word(0))
 }

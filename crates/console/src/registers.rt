@@ -1,37 +1,44 @@
 // Register writes and reads as the processor makes them.
+use crate::memory::address_of;
 use crate::memory::byte_of;
-use crate::memory::place;
 use crate::memory::store_fault;
-use crate::output::say;
-use crate::output::tell;
 use pane::faults::fault;
 use pane::faults::value;
 use pane::line::Line;
 use pane::line::fill;
 use pane::places::FLAGS;
 use pane::rows::byte;
+ghost use mathlib.Core.Path.{_≡_};
+ghost use Rattle.pane.specs.Shown.{textOf};
+ghost use Rattle.console.specs.Registers.{afterRead, placeFault, readFault, readText, warningOf, writeFault, written};
 
 // What is wrong with a register's address: no bytes where nothing is.
-fn place_fault(word: Line) -> Line {
+fn place_fault(word: Line) -> Line
+    ensures { λ r. ⌜ textOf r ≡ placeFault (textOf word) ⌝ }
+{
     let found = fault(word, 65535);
-    if found.used > 0 {
+    if !found.is_empty() {
         return found;
     }
     if value(word) / 256 == 0xDF {
-        return found;
+        return Line::new();
     }
     fill(b"no register at %: they are at DF00 to DF0A", word)
 }
 
-pub fn write_fault(line: Line) -> Line {
+pub fn write_fault(line: Line) -> Line
+    ensures { λ r. ⌜ textOf r ≡ writeFault (textOf line) ⌝ }
+{
     let found = store_fault(line, 65535);
-    if found.used > 0 {
+    if !found.is_empty() {
         return found;
     }
     place_fault(line.word(1))
 }
 
-pub fn read_fault(line: Line) -> Line {
+pub fn read_fault(line: Line) -> Line
+    ensures { λ r. ⌜ textOf r ≡ readFault (textOf line) ⌝ }
+{
     if line.words() == 2 {
         return place_fault(line.word(1));
     }
@@ -39,21 +46,34 @@ pub fn read_fault(line: Line) -> Line {
 }
 
 // One byte after another to one register after another.
-pub fn write(line: Line, image: &mut [u8]) {
-    for i in 2..line.words() {
-        reu::reu_write(image, (place(line, i) % 65536) as u16, byte_of(line, i));
+pub fn write(line: Line, image: &mut [u8])
+    ensures { λ _. ⌜ now (image .exit) ≡ written (textOf line) (now (image .entry)) ⌝ }
+{
+    let from = address_of(line);
+    let words = line.words();
+    let mut i = 2;
+    while i < words {
+        let at = from + ((i - 2) as u32);
+        reu::reu_write(image, (at % 65536) as u16, byte_of(line, i));
+        i += 1;
     }
 }
 
-pub fn read(line: Line, image: &mut [u8]) {
-    let word = line.word(1);
-    let got = reu::reu_read(image, (value(word) % 65536) as u16);
-    say(fill(b"% reads ", word).hex2((got % 256) as u8));
+// What a read gives, as a line.
+pub fn read(line: Line, image: &mut [u8]) -> Line
+    ensures { λ r. ⌜ textOf r ≡ readText (textOf line) (now (image .entry)) ⌝ }
+    ensures { λ r. ⌜ now (image .exit) ≡ afterRead (textOf line) (now (image .entry)) ⌝ }
+{
+    let got = reu::reu_read(image, (address_of(line) % 65536) as u16);
+    fill(b"% reads ", line.word(1)).hex2((got % 256) as u8)
 }
 
 // Without storage no command can run, which a newcomer may not expect.
-pub fn warn(image: &[u8]) {
+pub fn warning(image: &[u8]) -> Line
+    ensures { λ r. ⌜ textOf r ≡ warningOf (now (image .entry)) ⌝ }
+{
     if byte(image, FLAGS) / 4 % 2 == 0 {
-        tell(b"(no storage is attached, so no command runs: enable first)");
+        return Line::new().text(b"(no storage is attached, so no command runs: enable first)");
     }
+    Line::new()
 }

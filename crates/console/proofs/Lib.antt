@@ -1,0 +1,9 @@
+pub mod Bytes
+pub mod Choices
+pub mod Cycles
+pub mod Each
+pub mod Examples
+pub mod Letters
+pub mod Outcomes
+pub mod Runs
+pub mod Sides

@@ -1,0 +1,67 @@
+-- A cycle, a cycle more, and a run of them: what the calls answered and left put together.
+use mathlib.Core.Path.{_≡_, refl, sym, ap, _∙_}
+use mathlib.Core.List.{List}
+use Prim.Native.Nat.{ℕ, zero, suc, _-_, _/_, _%_, _≤_, _<_}
+use native.Mathlib.Omega.{arith}
+use borrow.Author.Tests.{eq-eqb, ne-eqb}
+use Rattle.reu.specs.Exports.{reuBusAction, reuC64Access, reuDmaActive, reuTickDma}
+use Rattle.pane.specs.Rows.{longAt}
+use Rattle.console.specs.declared.step.Cycle.{Cycle}
+use Rattle.console.specs.declared.step.Run.{Run}
+use Rattle.console.specs.Clock.{inputsOf, letterOf}
+use Rattle.console.specs.Step.{Running, advanced, counted, cycleBy, cycleOf, goOf}
+
+-- a cycle, from the grant and what it left, the access and the offset
+module _ (inputs number : ℕ) (i m s : List ℕ) (grant : ℕ) (j t : List ℕ)
+    (g : (grant, j, t) ≡ reuBusAction i s (inputs / 4 % 2) (inputs / 2 % 2) number)
+    (access at : ℕ) (a : access ≡ reuC64Access j) (o : at ≡ longAt j 26) where
+  abbrev done : Cycle
+  done = record { grant = grant; access = access; offset = at % 524288 }
+
+  -- on Transfer the tick leaves what is left
+  pub ticked : (k : ℕ × List ℕ × List ℕ × List ℕ) → grant ≡ 2 → k ≡ reuTickDma j m t number (inputs % 2)
+      → (done, k .1, k .2, k .3) ≡ cycleOf inputs number i m s
+  unfolding cycleBy
+  ticked k h p =
+      let by : (done, k .1, k .2, k .3) ≡ cycleBy inputs number m (grant, j, t) =
+      rw (eq-eqb grant 2 h)
+      (λ x. (record { grant = grant; access = a x; offset = o x % 524288 }, p x .1, p x .2, p x .3)) in
+      by ∙ ap (cycleBy inputs number m) g
+
+  -- on any other grant that is all
+  pub granted : (grant ≡ 2 → ⊥) → (done, j, m, t) ≡ cycleOf inputs number i m s
+  unfolding cycleBy
+  granted h =
+      let by : (done, j, m, t) ≡ cycleBy inputs number m (grant, j, t) =
+      rw (ne-eqb grant 2 h) (λ x. (record { grant = grant; access = a x; offset = o x % 524288 }, j, m, t)) in
+      by ∙ ap (cycleBy inputs number m) g
+
+-- a cycle more, by whether a command runs
+module _ (x : Running) (active : ℕ) (a : active ≡ reuDmaActive (x .1)) where
+  pub ended : active ≡ 0 → x ≡ advanced x
+  unfolding advanced
+  ended h = rw (← a, eq-eqb active 0 h)
+
+  pub onward : (inputs : ℕ) (y : Cycle × List ℕ × List ℕ × List ℕ) (r : Run) → (active ≡ 0 → ⊥)
+      → inputs ≡ inputsOf (letterOf (x .0 .clock))
+      → y ≡ cycleOf inputs (x .0 .clock .cycle) (x .1) (x .2) (x .3)
+      → r ≡ counted (x .0) (y .0 .grant) → (r, y .1, y .2, y .3) ≡ advanced x
+  unfolding advanced
+  onward inputs y r h n e c =
+      let done = e ∙ ap (λ (k : ℕ). cycleOf k (x .0 .clock .cycle) (x .1) (x .2) (x .3)) n in
+      rw (← a, ne-eqb active 0 h)
+      (ap (λ (q : Run). (q, y .1, y .2, y .3)) c
+      ∙ ap (λ (z : Cycle × List ℕ × List ℕ × List ℕ). (counted (x .0) (z .0 .grant), z .1, z .2, z .3)) done)
+
+-- a run: a cycle, and one less to go
+pub turn : (n : ℕ) (x y : Running) → 0 < n → y ≡ advanced x → goOf n x ≡ goOf (n - 1) y
+unfolding goOf
+turn zero x y h e = absurd (omega arith)
+turn (suc k) x y h e =
+    let one-less : k ≡ suc k - 1 = omega arith in
+    ap (goOf k) (sym e) ∙ ap (λ (n : ℕ). goOf n y) one-less
+
+pub over : (n : ℕ) (x : Running) → n ≤ 0 → x ≡ goOf n x
+unfolding goOf
+over zero x h = refl
+over (suc k) x h = absurd (omega arith)

@@ -1,0 +1,36 @@
+-- Time: the number of the next cycle, and the BA inputs of those to come, a letter each.
+use Prim.Native.Nat.{ℕ, _+_, _-_, _^_, _%_}
+use mathlib.Core.Bool.{Bool, true, false, cond}
+use mathlib.Core.List.{List, [], _∷_}
+use lib.Dec.{eqb, ltb}
+use lib.ListN.{length, getD}
+use Rattle.pane.specs.Shown.{textOf}
+use Rattle.console.specs.declared.clock.Clock.{Clock}
+
+-- what a letter says of BA: `ba_high`, `ba_high_phi1` and `ba_low` as bits 2, 1 and 0. h is high, l low, f falls, r rises;
+-- a digit from 0 to 7 says the three bits; 8 for what is no letter
+unfoldable pub inputsOf : ℕ → ℕ
+inputsOf c =
+    cond (eqb c 104) 0b110
+    (cond (eqb c 108) 0b001
+    (cond (eqb c 102) 0b011
+    (cond (eqb c 114) 0b100
+    (cond (ltb c 48) 8 (cond (ltb c 56) (c - 48) 8)))))
+
+-- a pattern has only letters
+unfoldable pub isPattern : List ℕ → Bool
+isPattern [] = true
+isPattern (c ∷ s) = cond (eqb (inputsOf c) 8) false (isPattern s)
+
+-- the letter of the next cycle: after the last one BA is high
+abbrev pub letterOf : Clock → ℕ
+letterOf c = cond (ltb (c .at) (length (textOf (c .ba)))) (getD (textOf (c .ba)) (c .at) 0) 104
+
+-- after a cycle; its number has 64 bits
+abbrev pub nextClock : Clock → Clock
+nextClock c =
+    record {
+      cycle = (c .cycle + 1) % 2 ^ 64;
+      ba = c .ba;
+      at = c .at + cond (ltb (c .at) (length (textOf (c .ba)))) 1 0;
+    }

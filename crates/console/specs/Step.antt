@@ -1,0 +1,92 @@
+-- Bus cycles: one by one, or until the command ends. i is the image, m the bus, s the storage.
+use Prim.Native.Nat.{ℕ, zero, suc, _+_, _/_, _%_, _^_}
+use mathlib.Core.Bool.{cond}
+use mathlib.Core.List.{List, [], _∷_}
+use lib.Dec.{eqb}
+use lib.ListN.{getD}
+use Rattle.reu.specs.Exports.{reuBusAction, reuC64Access, reuDmaActive, reuTickDma}
+use Rattle.pane.specs.Rows.{byteAt, longAt}
+use Rattle.pane.specs.Shown.{_⊕_, ascii, decimalOf, hexOf}
+use Rattle.console.specs.declared.clock.Clock.{Clock}
+use Rattle.console.specs.declared.step.Cycle.{Cycle}
+use Rattle.console.specs.declared.step.Run.{Run}
+use Rattle.console.specs.Clock.{inputsOf, letterOf, nextClock}
+
+-- ---- one cycle
+
+-- after a grant: the access that is ready, and the storage's offset (bytes 26 to 28 of the image); on Transfer the tick
+unfoldable pub cycleBy : ℕ → ℕ → List ℕ → (ℕ × List ℕ × List ℕ) → (Cycle × List ℕ × List ℕ × List ℕ)
+cycleBy inputs number m g =
+    let done : Cycle = record { grant = g .0; access = reuC64Access (g .1); offset = longAt (g .1) 26 % 524288 } in
+    let k : (ℕ × List ℕ × List ℕ × List ℕ) = reuTickDma (g .1) m (g .2) number (inputs % 2) in
+    cond (eqb (g .0) 2) (done, k .1, k .2, k .3) (done, g .1, m, g .2)
+
+-- "it asks `bus_action`, ticks on Transfer": the inputs are `ba_high`, `ba_high_phi1` and `ba_low` as bits 2, 1 and 0
+abbrev pub cycleOf : ℕ → ℕ → List ℕ → List ℕ → List ℕ → (Cycle × List ℕ × List ℕ × List ℕ)
+cycleOf inputs number i m s = cycleBy inputs number m (reuBusAction i s (inputs / 4 % 2) (inputs / 2 % 2) number)
+
+-- ---- one cycle, shown
+
+-- BA as its letter says it
+unfoldable pub baText : List ℕ → ℕ → List ℕ
+baText t letter =
+    cond (eqb letter 104) (t ⊕ ascii "  BA high  ")
+    (cond (eqb letter 108) (t ⊕ ascii "  BA low   ")
+    (cond (eqb letter 102) (t ⊕ ascii "  BA falls ")
+    (cond (eqb letter 114) (t ⊕ ascii "  BA rises ") (t ⊕ ascii "  BA " ⊕ (letter ∷ []) ⊕ ascii "     "))))
+
+abbrev pub grantText : ℕ → List ℕ
+grantText grant = getD (ascii "Cpu     " ∷ ascii "Hold    " ∷ []) grant (ascii "Transfer")
+
+-- "65,536 times 1 for a read and 2 for a write, plus the address"
+unfoldable pub accessText : List ℕ → ℕ → List ℕ
+accessText t access =
+    cond (eqb (access / 65536) 0) (t ⊕ ascii "  no access")
+    (cond (eqb (access / 65536) 1) (t ⊕ ascii "  read  " ⊕ hexOf 4 (access % 65536))
+    (t ⊕ ascii "  write " ⊕ hexOf 4 (access % 65536)))
+
+-- the two bytes at the transfer's place, as they are after the cycle
+unfoldable pub bytesThere : List ℕ → Cycle → List ℕ → List ℕ → List ℕ
+bytesThere t done m s =
+    cond (eqb (done .access) 0) t
+    (t ⊕ ascii "  bus " ⊕ hexOf 2 (byteAt m (done .access % 65536)) ⊕ ascii "  storage " ⊕ hexOf 5 (done .offset)
+    ⊕ ascii " " ⊕ hexOf 2 (byteAt s (done .offset)))
+
+-- its number, BA, the grant, the access and the bytes
+unfoldable pub cycleLine : Clock → Cycle → List ℕ → List ℕ → List ℕ
+cycleLine c done m s =
+    bytesThere (accessText (baText ([] ⊕ decimalOf (c .cycle)) (letterOf c) ⊕ grantText (done .grant)) (done .access))
+    done m s
+
+-- ---- until the command ends
+
+-- a run, with the image, the bus and the storage
+abbrev pub Running : Type 0
+Running = Run × List ℕ × List ℕ × List ℕ
+
+abbrev pub started : Clock → Run
+started c = record { clock = c; granted = 0; held = 0 }
+
+-- a cycle more; 64 bits
+unfoldable pub counted : Run → ℕ → Run
+counted r grant =
+    cond (eqb grant 2)
+    record { clock = nextClock (r .clock); granted = (r .granted + 1) % 2 ^ 64; held = r .held }
+    record { clock = nextClock (r .clock); granted = r .granted; held = (r .held + 1) % 2 ^ 64 }
+
+-- a cycle, unless the command has ended
+unfoldable pub advanced : Running → Running
+advanced x =
+    let c : Clock = x .0 .clock in
+    let y : (Cycle × List ℕ × List ℕ × List ℕ) = cycleOf (inputsOf (letterOf c)) (c .cycle) (x .1) (x .2) (x .3) in
+    cond (eqb (reuDmaActive (x .1)) 0) x (counted (x .0) (y .0 .grant), y .1, y .2, y .3)
+
+unfoldable pub goOf : ℕ → Running → Running
+goOf zero x = x
+goOf (suc k) x = goOf k (advanced x)
+
+unfoldable pub runLine : Run → List ℕ → List ℕ
+runLine r i =
+    let t : List ℕ = [] ⊕ decimalOf (r .granted) ⊕ ascii " cycles granted, " ⊕ decimalOf (r .held) in
+    cond (eqb (reuDmaActive i) 0) (t ⊕ ascii " held: the command has ended")
+    (t ⊕ ascii " held: at the limit, and the command still runs")
