@@ -1,18 +1,21 @@
 // A monitor for the 8726: the registers, stepping by bus cycle, FF00, and saved machines, in a terminal.
-mod commands;
-mod keys;
+mod files;
+mod help;
+mod input;
+mod output;
 mod session;
-mod step;
+mod turn;
 
 ghost use mathlib.Core.Path.{_≡_};
 ghost use lib.ListN.{length};
-use commands::turn;
-use console::output::say;
-use console::output::tell;
+use console::keys;
+use output::say;
+use output::tell;
 use pane::line::Line;
 use pane::line::fill;
 use pane::line::first;
 use session::Session;
+use turn::turn;
 
 fn argument(i: usize) -> Line {
     let mut buffer = [0u8; 128];
@@ -48,12 +51,6 @@ fn script_after(word: Line) -> Line {
     word
 }
 
-fn greet(echo: bool) {
-    if !echo {
-        tell(b"A new machine, not enabled yet. help lists the commands.");
-    }
-}
-
 fn begin(image: &mut [u8], bus: &mut [u8], storage: &mut [u8]) {
     let word = argument(1);
     let script = script_after(word);
@@ -63,8 +60,11 @@ fn begin(image: &mut [u8], bus: &mut [u8], storage: &mut [u8]) {
         return;
     }
     reu::reu_new(image);
-    greet(libc::isatty(fd) != 1);
-    let session = Session::new(word.key() == keys::COLOUR, libc::isatty(fd) != 1);
+    let typed = libc::isatty(fd) == 1;
+    if typed {
+        tell(b"A new machine, not enabled yet. help lists the commands.");
+    }
+    let session = Session::new(word.key() == keys::COLOUR, !typed);
     turns(session, fd, image, bus, storage);
 }
 

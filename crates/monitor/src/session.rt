@@ -1,15 +1,11 @@
-// What the monitor itself remembers: the cycle number, the BA inputs to come, and what it was told last.
+// What the monitor itself remembers: the time, the cycles still to step, and what it was told last.
+use console::clock::Clock;
 use pane::line::Line;
 
 pub struct Session {
-    // The number of the next cycle.
-    pub cycle: u64,
+    pub clock: Clock,
     // How many cycles are still to be stepped before the next command is read.
     pub left: u32,
-    // A letter for each of the following cycles; past the end BA is high.
-    pub ba: Line,
-    // The letter of the next cycle.
-    pub at: usize,
     // The command, as it was typed.
     pub line: Line,
     pub colour: bool,
@@ -20,10 +16,8 @@ pub struct Session {
 impl Session {
     pub(crate) fn new(colour: bool, echo: bool) -> Session {
         Session {
-            cycle: 0,
+            clock: Clock::new(),
             left: 0,
-            ba: Line::new(),
-            at: 0,
             line: Line::new(),
             colour,
             echo,
@@ -41,21 +35,9 @@ impl Session {
         self
     }
 
-    // After a cycle. Cycle numbers have 64 bits, and after the last comes 0.
-    pub(crate) fn next(mut self) -> Session {
-        let ba = self.ba;
-        self.cycle = std::num::wrapping_add_u64(self.cycle, 1);
-        if self.at < ba.used {
-            self.at += 1;
-        }
-        self
-    }
-
-    // One cycle fewer is to be stepped.
-    pub(crate) fn stepped(mut self) -> Session {
-        if self.left > 0 {
-            self.left -= 1;
-        }
+    // At another time.
+    pub(crate) fn at(mut self, clock: Clock) -> Session {
+        self.clock = clock;
         self
     }
 
@@ -64,31 +46,12 @@ impl Session {
         self
     }
 
-    pub(crate) fn with_cycle(mut self, cycle: u64) -> Session {
-        self.cycle = cycle;
-        self
-    }
-
-    pub(crate) fn with_ba(mut self, ba: Line) -> Session {
-        self.ba = ba;
-        self.at = 0;
-        self
-    }
-
-    // The letter of the next cycle.
-    pub(crate) fn letter(self) -> u8 {
-        let ba = self.ba;
-        let at = self.at;
-        if at < ba.used {
-            return ba.byte(at);
+    // After a cycle: one fewer is to be stepped.
+    pub(crate) fn stepped(mut self, clock: Clock) -> Session {
+        if self.left > 0 {
+            self.left -= 1;
         }
-        b'h'
-    }
-
-    // The command as a number: see the table in commands.rt.
-    pub(crate) fn key(self) -> u64 {
-        let line = self.line;
-        let word = line.word(0);
-        word.key()
+        self.clock = clock;
+        self
     }
 }

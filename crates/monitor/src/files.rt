@@ -1,0 +1,137 @@
+// Saved machines: the image in a file, bus and storage in two files beside it.
+use crate::empty_bus;
+use crate::empty_storage;
+use crate::output::say;
+use crate::output::show_beside;
+use pane::line::Line;
+use pane::line::fill;
+use pane::line::first;
+use pane::rows::byte;
+
+// The names of the three parts.
+fn part_name(name: Line, part: u8) -> Line {
+    match part {
+        0 => name,
+        1 => name.text(b".bus"),
+        _ => name.text(b".storage"),
+    }
+}
+
+// ---- saving
+
+fn write_part(name: Line, bytes: &[u8]) -> bool {
+    let path = name.all();
+    let fd = os::open_overwrite(first(&path, name.used));
+    if fd < 0 {
+        return false;
+    }
+    let written = io::write_all(fd, bytes);
+    written & (libc::close(fd) == 0)
+}
+
+// Writes a part unless an earlier one failed.
+fn save_part(so_far: bool, name: Line, part: u8, bytes: &[u8]) -> bool {
+    if !so_far {
+        return false;
+    }
+    let file = part_name(name, part);
+    let written = write_part(file, bytes);
+    if !written {
+        say(fill(b"cannot write %", file));
+    }
+    written
+}
+
+pub(crate) fn save(name: Line, image: &[u8], bus: &[u8], storage: &[u8]) {
+    let one = save_part(true, name, 0, image);
+    let two = save_part(one, name, 1, bus);
+    if save_part(two, name, 2, storage) {
+        say(fill(b"saved %, %.bus and %.storage", name));
+    }
+}
+
+// ---- opening
+
+// Reads a part into bytes of its length; what is wrong with it, as a line.
+fn read_part(name: Line, bytes: &mut [u8]) -> Line {
+    let path = name.all();
+    let fd = os::open_read(first(&path, name.used));
+    if fd < 0 {
+        return fill(b"cannot read %: no such file, or it may not be read", name);
+    }
+    let got = io::read_full(fd, bytes);
+    let mut more = [0u8; 1];
+    let past = libc::read(fd, &mut more);
+    libc::close(fd);
+    if (got == bytes.len()) & (past == 0) {
+        return Line::new();
+    }
+    fill(
+        b"refused: % has not the length of this part of a saved machine, or cannot be read",
+        name,
+    )
+}
+
+// The image alone, tested as every call tests it.
+fn read_image(name: Line, image: &mut [u8]) -> Line {
+    let found = read_part(name, image);
+    if !found.is_empty() {
+        return found;
+    }
+    if reu::reu_dma_active(image) < 16777216 {
+        return found;
+    }
+    fill(
+        b"refused: % is no saved machine: a field is out of its range (refusal 2)",
+        name,
+    )
+}
+
+// All three parts, into bytes that are not the machine's.
+fn read_machine(name: Line, image: &mut [u8], bus: &mut [u8], storage: &mut [u8]) -> Line {
+    let found = read_image(name, image);
+    if !found.is_empty() {
+        return found;
+    }
+    let also = read_part(part_name(name, 1), bus);
+    if !also.is_empty() {
+        return also;
+    }
+    read_part(part_name(name, 2), storage)
+}
+
+fn copy(from: &[u8], to: &mut [u8]) {
+    for i in 0..to.len() {
+        to[i] = byte(from, i);
+    }
+}
+
+// The machine is changed once all three parts are there. Answers what to say.
+pub(crate) fn open_machine(
+    name: Line,
+    image: &mut [u8],
+    bus: &mut [u8],
+    storage: &mut [u8],
+) -> Line {
+    let mut saved = [0u8; 34];
+    let mut saved_bus = empty_bus();
+    let mut saved_storage = empty_storage();
+    let found = read_machine(name, &mut saved, &mut saved_bus, &mut saved_storage);
+    if !found.is_empty() {
+        return found;
+    }
+    copy(&saved, image);
+    copy(&saved_bus, bus);
+    copy(&saved_storage, storage);
+    fill(b"opened %, %.bus and %.storage", name)
+}
+
+pub(crate) fn compare(name: Line, image: &[u8], colour: bool) {
+    let mut saved = [0u8; 34];
+    let found = read_image(name, &mut saved);
+    if !found.is_empty() {
+        say(found);
+        return;
+    }
+    show_beside(image, &saved, colour);
+}
