@@ -25,7 +25,7 @@ fn argument(i: usize) -> Line {
 
 // Commands come from standard input, or from the file that an argument names.
 fn source(script: Line) -> i32 {
-    if script.used == 0 {
+    if script.is_empty() {
         return 0;
     }
     let bytes = script.all();
@@ -44,16 +44,15 @@ fn turns(start: Session, fd: i32, image: &mut [u8], bus: &mut [u8], storage: &mu
     }
 }
 
-fn script_after(word: Line) -> Line {
-    if word.key() == keys::COLOUR {
-        return argument(2);
-    }
-    word
+// The script's name: the first argument, or the one after --colour.
+fn script_of(word: Line, colour: bool) -> Line {
+    if colour { argument(2) } else { word }
 }
 
 fn begin(image: &mut [u8], bus: &mut [u8], storage: &mut [u8]) {
     let word = argument(1);
-    let script = script_after(word);
+    let colour = (word.length() == 8) & (word.key() == keys::COLOUR);
+    let script = script_of(word, colour);
     let fd = source(script);
     if fd < 0 {
         say(fill(b"cannot read the commands in %", script));
@@ -64,7 +63,7 @@ fn begin(image: &mut [u8], bus: &mut [u8], storage: &mut [u8]) {
     if typed {
         tell(b"A new machine, not enabled yet. help lists the commands.");
     }
-    let session = Session::new(word.key() == keys::COLOUR, !typed);
+    let session = Session::new(colour, !typed);
     turns(session, fd, image, bus, storage);
 }
 
