@@ -1,6 +1,7 @@
 pub mod Laws
+pub mod Bits
 pub mod NoEdge
 pub mod Pick
 pub mod Checked
-pub mod Sound
+pub mod InRange
 pub mod WellFormed

@@ -6,7 +6,7 @@ use lib.Dec.{leb, ltb}
 use borrow.Author.Tests.{leb-true, ltb-true}
 use Rattle.controller.specs.Prelude.{Reu, Dma, Idle, Running, DmaState}
 use Rattle.controller.specs.Constants.{expansionLimit, fullLength}
-use Rattle.controller.specs.Inner.{Sound, SoundDma}
+use Rattle.controller.specs.Inner.{InRange, InRangeDma}
 use Rattle.controller.specs.Refusals.{wellTransfer, wellDma, wellFormed}
 
 pub fst : (a b : Bool) → (a && b) ≡ true → a ≡ true
@@ -18,7 +18,7 @@ snd true b e = e
 snd false true e = refl
 snd false false e = e
 
-well-transfer : (d : DmaState) → wellTransfer d ≡ true → Sound d
+well-transfer : (d : DmaState) → wellTransfer d ≡ true → InRange d
 well-transfer d e =
     let len = fst (leb 1 (d .remaining) && leb (d .remaining) fullLength) _ e in
     record {
@@ -27,13 +27,13 @@ well-transfer d e =
       addr = ltb-true _ _ (fst (ltb (d .«reu_addr» .0) expansionLimit) _ (snd (leb 1 (d .remaining) && leb (d .remaining) fullLength) _ e));
     }
 
-well-dma : (attached : Bool) (x : Dma) → wellDma attached x ≡ true → SoundDma x
+well-dma : (attached : Bool) (x : Dma) → wellDma attached x ≡ true → InRangeDma x
 well-dma a Idle e = tt
 well-dma a (Running d) e = well-transfer d (snd a _ e)
 
-pub well-sound : (u : Reu) → wellFormed u ≡ true → SoundDma (u .dma)
+pub well-range : (u : Reu) → wellFormed u ≡ true → InRangeDma (u .dma)
 unfolding wellFormed
-well-sound u e =
+well-range u e =
     well-dma (u .attached) (u .dma)
     (snd (ltb (u .«shadow_reu_addr») expansionLimit) _ (snd (leb (u .«swap_read_delay») 2) _ e))
 

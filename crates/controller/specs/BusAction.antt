@@ -49,7 +49,8 @@ resumed u s rising cycle =
 unfoldable pub repeated : Reu → Bool → Reu
 repeated u falling = withRepeat u (falling && (bit (reg u command) withoutFf00 && recallStarts (u .dma)) || u .«recall_repeat»)
 
--- a fall on a swap's read phase: the first byte waits, the last goes on with its write, any other waits for two cycles
+-- a fall on a swap's read phase: the first byte waits; the last is read, and its write is granted next as the terminal pair; any other
+-- waits for this cycle and the next
 unfoldable pub fallOnRead : Reu → BusAnswer
 fallOnRead u =
     cond (firstByte (u .dma)) (granted Hold u)

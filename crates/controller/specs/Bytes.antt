@@ -1,4 +1,4 @@
--- Bits of a byte, bytes of a number.
+-- Bits of a byte, bytes of a number: the words that every crate's definitions say them with.
 use Rattle.controller.specs.Prelude.{ℕ, _+_, _-_, _*_, _/_, _%_, _^_, Bool, not, cond, List, [], _∷_, eqb, bitAnd, bitOr}
 
 -- bit n of v is 1
@@ -36,10 +36,10 @@ bankByte n = n / 65536 % 256
 
 -- the number of two bytes and of three, the low byte first
 abbrev pub word : ℕ → ℕ → ℕ
-word lo hi = hi * 256 + lo
+word lo hi = lo + 256 * hi
 
 abbrev pub long : ℕ → ℕ → ℕ → ℕ
-long lo hi bank = bank * 65536 + word lo hi
+long lo hi bank = lo + 256 * hi + 65536 * bank
 
 -- n with its low byte, its second or its third byte and all above replaced by v
 abbrev pub withLow : ℕ → ℕ → ℕ

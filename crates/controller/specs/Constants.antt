@@ -15,14 +15,14 @@ c64Low = 2
 abbrev pub c64High : ℕ
 c64High = 3
 
-abbrev pub reuLow : ℕ
-reuLow = 4
+abbrev pub expLow : ℕ
+expLow = 4
 
-abbrev pub reuHigh : ℕ
-reuHigh = 5
+abbrev pub expHigh : ℕ
+expHigh = 5
 
-abbrev pub reuBank : ℕ
-reuBank = 6
+abbrev pub expBank : ℕ
+expBank = 6
 
 abbrev pub lengthLow : ℕ
 lengthLow = 7
@@ -72,8 +72,8 @@ abbrev pub enableAll : ℕ
 enableAll = 7
 
 -- "Control bit 7 fixes the C64 address, bit 6 the expansion address"
-abbrev pub fixesReu : ℕ
-fixesReu = 6
+abbrev pub fixesExp : ℕ
+fixesExp = 6
 
 abbrev pub fixesC64 : ℕ
 fixesC64 = 7

@@ -1,18 +1,23 @@
 -- The transfer record.
-use Rattle.controller.specs.Prelude.{ℕ, _-_, Bool, true, false, cond, eqb, TransferType, Store, Recall, Swap, Verify, SwapPhase, ReadC64, WriteC64, DmaState, Dma, Idle, Running, Completed}
+use Rattle.controller.specs.Prelude.{ℕ, _-_, Bool, true, false, cond, [], _∷_, eqb, TransferType, Store, Recall, Swap, Verify, SwapPhase, ReadC64, WriteC64, DmaState, Dma, Idle, Running, Completed}
 use Rattle.controller.specs.Constants.{fullLength}
+use Rattle.controller.specs.Bytes.{keepBits}
 use Rattle.controller.specs.Reu.{dmaOf}
-use Rattle.controller.specs.Memory.{nextC64, nextReu}
+use Rattle.controller.specs.Memory.{nextC64, nextExp}
 
--- "0 store, 1 recall, 2 swap, 3 verify"
+-- "type (0 store, 1 recall, 2 swap, 3 verify)"
 abbrev pub typeNumber : TransferType → ℕ
 typeNumber Store = 0
 typeNumber Recall = 1
 typeNumber Swap = 2
 typeNumber Verify = 3
 
+-- "COMMAND: bits 0-1 type": of any byte only these two bits count
+abbrev pub typeBits : ℕ → ℕ
+typeBits v = keepBits (0 ∷ 1 ∷ []) v
+
 unfoldable pub typeOf : ℕ → TransferType
-typeOf n = cond (eqb n 0) Store (cond (eqb n 1) Recall (cond (eqb n 2) Swap Verify))
+typeOf v = cond (eqb (typeBits v) 0) Store (cond (eqb (typeBits v) 1) Recall (cond (eqb (typeBits v) 2) Swap Verify))
 
 abbrev pub isType : TransferType → TransferType → Bool
 isType a b = eqb (typeNumber a) (typeNumber b)
@@ -44,7 +49,7 @@ lengthOf n = cond (eqb n 0) fullLength n
 abbrev pub moved : DmaState → DmaState
 moved d =
     dmaOf (d .«transfer_type») ReadC64 (cond (d .«fix_c64») (d .«c64_addr») (nextC64 (d .«c64_addr»)))
-    (cond (d .«fix_reu») (d .«reu_addr») (nextReu (d .«reu_addr»)))
+    (cond (d .«fix_reu») (d .«reu_addr») (nextExp (d .«reu_addr»)))
     (cond (eqb (d .remaining) 1) (d .remaining) (d .remaining - 1)) (d .«fix_c64») (d .«fix_reu») (d .autoload)
     (d .latch) false (d .«read_clock_odd») (d .«verify_tail»)
 

@@ -1,6 +1,6 @@
 -- The visible counters, the interrupt, and the end of a command.
 use Rattle.controller.specs.Prelude.{ℕ, Bool, cond, _&&_, _||_, List, [], _∷_, getD, set, DmaState, Idle, Reu}
-use Rattle.controller.specs.Constants.{status, command, c64Low, c64High, reuLow, reuHigh, reuBank, lengthLow, lengthHigh, interruptMask, verifyError, endOfBlock, interrupt, withoutFf00, execute, enableAll}
+use Rattle.controller.specs.Constants.{status, command, c64Low, c64High, expLow, expHigh, expBank, lengthLow, lengthHigh, interruptMask, verifyError, endOfBlock, interrupt, withoutFf00, execute, enableAll}
 use Rattle.controller.specs.Bytes.{bit, setBits, clearBits, lowByte, highByte, bankByte}
 use Rattle.controller.specs.Reu.{reg, withRegs, withIrq, withDma}
 
@@ -20,8 +20,8 @@ updateIrq u =
 -- "the seven address and length registers" from two addresses and a length
 abbrev pub counters : List ℕ → ℕ → ℕ → ℕ → List ℕ
 counters l c e n =
-    set (set (set (set (set (set (set l c64Low (lowByte c)) c64High (highByte c)) reuLow (lowByte e)) reuHigh (highByte e))
-    reuBank (bankByte e)) lengthLow (lowByte n)) lengthHigh (highByte n)
+    set (set (set (set (set (set (set l c64Low (lowByte c)) c64High (highByte c)) expLow (lowByte e)) expHigh (highByte e))
+    expBank (bankByte e)) lengthLow (lowByte n)) lengthHigh (highByte n)
 
 unfoldable pub publishLiveCounters : Reu → DmaState → Reu
 publishLiveCounters u d = withRegs u (counters (u .regs) (d .«c64_addr» .0) (d .«reu_addr» .0) (d .remaining))

@@ -26,5 +26,5 @@ zeros s = replicate (length s) 0
 abbrev pub nextC64 : C64Address → C64Address
 nextC64 a = record { 0 = (a .0 + 1) % busSize }
 
-abbrev pub nextReu : ExpansionAddress → ExpansionAddress
-nextReu a = record { 0 = (a .0 + 1) % expansionLimit }
+abbrev pub nextExp : ExpansionAddress → ExpansionAddress
+nextExp a = record { 0 = (a .0 + 1) % expansionLimit }

@@ -1,6 +1,6 @@
 -- The register record: what a read gives and does, what a write does, in the terms of the public register descriptions.
 use Rattle.controller.specs.Prelude.{ℕ, Bool, true, false, cond, [], _∷_, bitAnd, eqb, ltb, set, Reu, ReadAnswer}
-use Rattle.controller.specs.Constants.{status, command, c64Low, c64High, reuLow, reuHigh, reuBank, lengthLow, lengthHigh, interruptMask, addressControl, registerCount, unusedRegister, verifyError, endOfBlock, interrupt, withoutFf00, execute, bankOnes, maskOnes, controlOnes}
+use Rattle.controller.specs.Constants.{status, command, c64Low, c64High, expLow, expHigh, expBank, lengthLow, lengthHigh, interruptMask, addressControl, registerCount, unusedRegister, verifyError, endOfBlock, interrupt, withoutFf00, execute, bankOnes, maskOnes, controlOnes}
 use Rattle.controller.specs.Bytes.{bit, setBits, clearBits, lowByte, highByte, withLow, withHigh, withBank}
 use Rattle.controller.specs.Reu.{reg, setReg, withRegs, withIrq, withArmed, withShadows}
 use Rattle.controller.specs.StartDma.{startDma}
@@ -15,7 +15,7 @@ registerIndex addr = bitAnd addr 31
 -- the byte that a read of register i gives: some bits of the bank, the mask and the control are always 1
 abbrev pub shown : ℕ → ℕ → ℕ
 shown i v =
-    cond (eqb i reuBank) (setBits bankOnes v)
+    cond (eqb i expBank) (setBits bankOnes v)
     (cond (eqb i interruptMask) (setBits maskOnes v)
     (cond (eqb i addressControl) (setBits controlOnes v) v))
 
@@ -50,8 +50,8 @@ loadPair u lo hi shadow = withRegs u (set (set (u .regs) lo (lowByte shadow)) hi
 abbrev pub writeC64 : Reu → ℕ → Reu
 writeC64 u n = loadPair (withShadows u n (u .«shadow_reu_addr») (u .«shadow_len»)) c64Low c64High n
 
-abbrev pub writeReu : Reu → ℕ → Reu
-writeReu u n = loadPair (withShadows u (u .«shadow_c64_addr») n (u .«shadow_len»)) reuLow reuHigh n
+abbrev pub writeExp : Reu → ℕ → Reu
+writeExp u n = loadPair (withShadows u (u .«shadow_c64_addr») n (u .«shadow_len»)) expLow expHigh n
 
 abbrev pub writeLen : Reu → ℕ → Reu
 writeLen u n = loadPair (withShadows u (u .«shadow_c64_addr») (u .«shadow_reu_addr») n) lengthLow lengthHigh n
@@ -59,7 +59,7 @@ writeLen u n = loadPair (withShadows u (u .«shadow_c64_addr») (u .«shadow_reu
 -- "A bank write changes only the bank and its shadow", and "stores the bank OR $F8"
 abbrev pub writeBank : Reu → ℕ → Reu
 writeBank u bank =
-    withShadows (setReg u reuBank bank) (u .«shadow_c64_addr») (withBank (u .«shadow_reu_addr») bank) (u .«shadow_len»)
+    withShadows (setReg u expBank bank) (u .«shadow_c64_addr») (withBank (u .«shadow_reu_addr») bank) (u .«shadow_len»)
 
 -- "Mask is stored and read OR $1F, control OR $3F"; "Writes [of STATUS] are ignored"; "Index 11 to 31 .. ignores writes"
 abbrev pub writeAt : Reu → ℕ → ℕ → Reu
@@ -67,9 +67,9 @@ writeAt u i v =
     cond (eqb i command) (writeCommand u v)
     (cond (eqb i c64Low) (writeC64 u (withLow (u .«shadow_c64_addr») v))
     (cond (eqb i c64High) (writeC64 u (withHigh (u .«shadow_c64_addr») v))
-    (cond (eqb i reuLow) (writeReu u (withLow (u .«shadow_reu_addr») v))
-    (cond (eqb i reuHigh) (writeReu u (withHigh (u .«shadow_reu_addr») v))
-    (cond (eqb i reuBank) (writeBank u (setBits bankOnes v))
+    (cond (eqb i expLow) (writeExp u (withLow (u .«shadow_reu_addr») v))
+    (cond (eqb i expHigh) (writeExp u (withHigh (u .«shadow_reu_addr») v))
+    (cond (eqb i expBank) (writeBank u (setBits bankOnes v))
     (cond (eqb i lengthLow) (writeLen u (withLow (u .«shadow_len») v))
     (cond (eqb i lengthHigh) (writeLen u (withHigh (u .«shadow_len») v))
     (cond (eqb i interruptMask) (updateIrq (setReg u interruptMask (setBits maskOnes v)))

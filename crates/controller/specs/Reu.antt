@@ -104,7 +104,7 @@ cleared u = withArmed (withPending u false false false false 0) false
 abbrev pub dmaOf :
     TransferType → SwapPhase → C64Address → ExpansionAddress → ℕ → Bool → Bool → Bool → ℕ → Bool → Bool → Bool
     → DmaState
-dmaOf kind phase c e n fixC64 fixReu autoload latch first odd tail =
+dmaOf kind phase c e n fixC64 fixExp autoload latch first odd tail =
     record {
       «transfer_type» = kind;
       «swap_phase» = phase;
@@ -112,7 +112,7 @@ dmaOf kind phase c e n fixC64 fixReu autoload latch first odd tail =
       «reu_addr» = e;
       remaining = n;
       «fix_c64» = fixC64;
-      «fix_reu» = fixReu;
+      «fix_reu» = fixExp;
       autoload = autoload;
       latch = latch;
       «first_byte» = first;

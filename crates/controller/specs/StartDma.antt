@@ -1,18 +1,18 @@
 -- A start, at once or by the FF00 trigger.
 use Rattle.controller.specs.Prelude.{Bool, true, false, cond, _&&_, [], _∷_, bitAnd, ReadC64, DmaState, Running, Reu}
-use Rattle.controller.specs.Constants.{status, command, c64Low, c64High, reuLow, reuHigh, reuBank, lengthLow, lengthHigh, addressControl, version, autoloads, execute, fixesReu, fixesC64}
+use Rattle.controller.specs.Constants.{status, command, c64Low, c64High, expLow, expHigh, expBank, lengthLow, lengthHigh, addressControl, version, autoloads, execute, fixesExp, fixesC64}
 use Rattle.controller.specs.Bytes.{bit, clearBits, keepBits, word, long}
 use Rattle.controller.specs.Reu.{reg, setReg, withIrq, withDma, cleared, dmaOf}
 use Rattle.controller.specs.Dma.{typeOf, lengthOf}
 
--- the transfer that the registers show; COMMAND's bits 0-1 are its type
+-- the transfer that the registers show
 unfoldable pub requested : Reu → DmaState
 requested u =
-    dmaOf (typeOf (keepBits (0 ∷ 1 ∷ []) (reg u command))) ReadC64
+    dmaOf (typeOf (reg u command)) ReadC64
     (record { 0 = word (reg u c64Low) (reg u c64High) })
-    (record { 0 = long (reg u reuLow) (reg u reuHigh) (reg u reuBank) })
+    (record { 0 = long (reg u expLow) (reg u expHigh) (reg u expBank) })
     (lengthOf (word (reg u lengthLow) (reg u lengthHigh)))
-    (bit (reg u addressControl) fixesC64) (bit (reg u addressControl) fixesReu) (bit (reg u command) autoloads)
+    (bit (reg u addressControl) fixesC64) (bit (reg u addressControl) fixesExp) (bit (reg u command) autoloads)
     0 true false false
 
 -- "Without storage it then clears only bit 7 of COMMAND; .. With storage, STATUS is ANDed with $10 and the interrupt level falls"

@@ -5,7 +5,8 @@ ghost use Prim.Native.Nat.{_-_, _≤_};
 ghost use lib.Dec.{eqb};
 ghost use Rattle.controller.specs.Reu.{withPhase, withTail};
 ghost use Rattle.controller.specs.Dma.{active, completeByte, firstByte, isType, isWritePhase, lastByte, typeNumber, typeOf};
-ghost use Rattle.controller.specs.Inner.{Sound};
+ghost use Rattle.controller.specs.Inner.{InRange};
+use crate::constants::COMMAND_TRANSFER_TYPE_MASK;
 use crate::memory::C64Address;
 use crate::memory::ExpansionAddress;
 
@@ -51,10 +52,11 @@ pub struct Completed {
 
 impl TransferType {
     // The type by its number, bits 0 and 1 of a command.
-    pub fn from_command(bits: u8) -> TransferType
-        ensures { λ r. ⌜ r ≡ typeOf bits ⌝ }
+    pub fn from_command(command: u8) -> TransferType
+        ensures { λ r. ⌜ r ≡ typeOf command ⌝ }
     {
-        match bits {
+        let kind = command & COMMAND_TRANSFER_TYPE_MASK;
+        match kind {
             0 => TransferType::Store,
             1 => TransferType::Recall,
             2 => TransferType::Swap,
@@ -135,7 +137,7 @@ fn left_after(remaining: u32) -> u32
 impl DmaState {
     // The only place where the counters move.
     pub(crate) fn complete_byte(self) -> Completed
-        requires { ⌜ Sound self ⌝ }
+        requires { ⌜ InRange self ⌝ }
         ensures { λ r. ⌜ r ≡ completeByte self ⌝ }
     {
         let transfer_type = self.transfer_type;

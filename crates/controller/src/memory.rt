@@ -4,7 +4,7 @@ ghost use mathlib.Core.Bool.{cond};
 ghost use Prim.Native.Nat.{_<_};
 ghost use lib.ListN.{length};
 ghost use Rattle.controller.specs.Constants.{busSize, expansionLimit, storageSize};
-ghost use Rattle.controller.specs.Memory.{busByte, nextC64, nextReu, physicalOffset, setBus, setStorage, storageByte, zeros};
+ghost use Rattle.controller.specs.Memory.{busByte, nextC64, nextExp, physicalOffset, setBus, setStorage, storageByte, zeros};
 use crate::constants::EXPANSION_ADDRESS_LIMIT;
 
 // A C64 address, 16 bits.
@@ -42,7 +42,7 @@ impl ExpansionAddress {
     // The next address, unless it is fixed.
     pub(crate) fn step(self, fixed: bool) -> ExpansionAddress
         requires { ⌜ self .0 < expansionLimit ⌝ }
-        ensures { λ r. ⌜ r ≡ cond fixed self (nextReu self) ⌝ }
+        ensures { λ r. ⌜ r ≡ cond fixed self (nextExp self) ⌝ }
     {
         if fixed {
             self

@@ -4,7 +4,7 @@ ghost use Rattle.controller.specs.Constants.{addressControl, controlOnes
 ghost use Rattle.controller.specs.Bytes.{setBits, withBank, withHigh, withLow};
 ghost use Rattle.controller.specs.Reu.{setReg};
 ghost use Rattle.controller.specs.FinishDma.{updateIrq};
-ghost use Rattle.controller.specs.Registers.{debugRegister, readRegister, registerIndex, writeBank, writeC64, writeCommand, writeLen, writeRegister, writeReu};
+ghost use Rattle.controller.specs.Registers.{debugRegister, readRegister, registerIndex, writeBank, writeC64, writeCommand, writeLen, writeRegister, writeExp};
 use crate::constants::ADDRESS_CONTROL;
 use crate::constants::ADDRESS_CONTROL_UNUSED_READ_HIGH;
 use crate::constants::BANK_UNUSED_READ_HIGH;
@@ -121,7 +121,7 @@ impl Reu {
     }
 
     fn write_reu(mut self, shadow: u32) -> Reu
-        ensures { λ r. ⌜ r ≡ writeReu self shadow ⌝ }
+        ensures { λ r. ⌜ r ≡ writeExp self shadow ⌝ }
     {
         self.shadow_reu_addr = shadow;
         self.regs[REU_ADDRESS_LOW] = (shadow % 256) as u8;

@@ -12,7 +12,6 @@ use crate::constants::C64_ADDRESS_LOW;
 use crate::constants::COMMAND;
 use crate::constants::COMMAND_AUTOLOAD;
 use crate::constants::COMMAND_EXECUTE;
-use crate::constants::COMMAND_TRANSFER_TYPE_MASK;
 use crate::constants::FULL_64K_TRANSFER_LENGTH;
 use crate::constants::REU_ADDRESS_BANK;
 use crate::constants::REU_ADDRESS_HIGH;
@@ -84,7 +83,7 @@ impl Reu {
             self.regs[TRANSFER_LENGTH_LOW],
             self.regs[TRANSFER_LENGTH_HIGH],
         );
-        let transfer_type = TransferType::from_command(command & COMMAND_TRANSFER_TYPE_MASK);
+        let transfer_type = TransferType::from_command(command);
         let swap_phase = SwapPhase::ReadC64;
         let c64_addr = C64Address(c64);
         let reu_addr = ExpansionAddress(reu);

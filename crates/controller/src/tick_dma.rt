@@ -5,7 +5,7 @@ ghost use lib.ListN.{length};
 ghost use Rattle.controller.specs.Constants.{storageSize};
 ghost use Rattle.controller.specs.Memory.{storageByte};
 ghost use Rattle.controller.specs.TickDma.{advance, swapRead, swapWrite, tickByType, tickDma, tickOf, tickRecall, tickRefresh, tickRunning, tickStore, tickSwap, tickTail, tickVerify, withError};
-ghost use Rattle.controller.specs.Inner.{Lent, Ready, Sound};
+ghost use Rattle.controller.specs.Inner.{Lent, Ready, InRange};
 use crate::constants::STATUS;
 use crate::constants::STATUS_VERIFY_ERROR;
 use crate::dma::Dma;
@@ -35,7 +35,7 @@ fn recall_byte(repeat: bool, latch: u8, storage: &[u8], addr: ExpansionAddress) 
 impl Reu {
     // A byte is done: the counters move and are shown.
     fn advance(self, d: DmaState, error: bool, ba_low: bool) -> FlagAnswer
-        requires { ⌜ Sound d ⌝ }
+        requires { ⌜ InRange d ⌝ }
         ensures { λ r. ⌜ r ≡ advance self d error «ba_low» ⌝ }
     {
         let kind = d.transfer_type;

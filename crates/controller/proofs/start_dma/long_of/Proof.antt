@@ -1,3 +1,4 @@
+use mathlib.Core.Path.{_∙_}
 use Prim.Native.Nat.{_+_, _*_}
 use native.Mathlib.Omega.{arith}
 use borrow.Author.Needs.{needs}
@@ -9,7 +10,7 @@ returns : tie.Need-returns
 returns c =
     let its-args = c .before .args in
     rw (c .word-of .ensures)
-    (joined 16 32 (its-args .bank) (its-args .hi * 256 + its-args .lo) (omega arith) (omega arith))
+    (joined 16 32 (its-args .bank) (its-args .lo + 256 * its-args .hi) (omega arith) (omega arith) ∙ omega arith)
 
 pub long-of-spec : {M : Type 1} → statement M
 long-of-spec = tie.close (tie.spec (λ c κs. search needs) (λ c. search needs) returns)

@@ -1,10 +1,11 @@
+use mathlib.Core.Path.{_∙_}
 use native.Mathlib.Omega.{arith}
 use Rattle.controller.proofs.Laws.{joined}
 use Rattle.controller.proofs.start_dma.word_of.Statement.{statement}
 use Rattle.controller.proofs.start_dma.word_of.Tie as tie
 
 returns : tie.Need-returns
-returns c = joined 8 16 (c .args .hi) (c .args .lo) (omega arith) (omega arith)
+returns c = joined 8 16 (c .args .hi) (c .args .lo) (omega arith) (omega arith) ∙ omega arith
 
 pub word-of-spec : {M : Type 1} → statement M
 word-of-spec =

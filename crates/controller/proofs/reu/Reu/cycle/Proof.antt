@@ -1,8 +1,8 @@
 use mathlib.Core.Path.{subst, sym, _∙_}
 use Rattle.controller.specs.BusAction.{Granted}
 use Rattle.controller.specs.Cycle.{runReuCycle}
-use Rattle.controller.specs.Inner.{SoundDma}
-use Rattle.controller.proofs.Sound.{bus-action-sound}
+use Rattle.controller.specs.Inner.{InRangeDma}
+use Rattle.controller.proofs.InRange.{bus-action-range}
 use borrow.Author.Needs.{needs}
 use Rattle.controller.proofs.reu.Reu.cycle.Statement.{statement}
 use Rattle.controller.proofs.reu.Reu.cycle.Tie as tie
@@ -12,7 +12,7 @@ cycle-by-requires c κs =
     let its-next-action = c .before .before .before .before .before .next-action in
     let its-pre = c .before .before .before .before .before .before .before .before .before .pre in
     record
-    { sound = subst (λ (p : Granted). SoundDma (p .0 .reu .dma)) (sym (its-next-action .ensures)) (bus-action-sound _ _ _ _ _ (its-pre .sound)); bus = its-pre .bus; storage = its-next-action .kept .1 .0 ∙ its-pre .storage }
+    { range = subst (λ (p : Granted). InRangeDma (p .0 .reu .dma)) (sym (its-next-action .ensures)) (bus-action-range _ _ _ _ _ (its-pre .range)); bus = its-pre .bus; storage = its-next-action .kept .1 .0 ∙ its-pre .storage }
 
 returns : tie.Need-returns
 unfolding runReuCycle

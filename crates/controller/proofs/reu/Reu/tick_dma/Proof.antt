@@ -2,7 +2,7 @@ use Rattle.controller.specs.Prelude.{Answer}
 use mathlib.Core.Path.{ap}
 use Rattle.controller.specs.Calls.{tickCall, tickedAnswer}
 use Rattle.controller.proofs.Checked.{done, not-done, accepted}
-use Rattle.controller.proofs.WellFormed.{well-sound}
+use Rattle.controller.proofs.WellFormed.{well-range}
 use borrow.Author.Needs.{needs}
 use Rattle.controller.proofs.reu.Reu.tick_dma.Statement.{statement}
 use Rattle.controller.proofs.reu.Reu.tick_dma.Tie as tie
@@ -21,7 +21,7 @@ tick-requires c κs =
     let its-if1 = c .before .before .if1 in
     let its-refusal = c .before .before .before .refusal in
     let k = accepted _ _ _ _ (its-refusal .ensures) (its-if1 .left) in record
-    { sound = well-sound _ (k .well); bus = k .bus-length; storage = k .storage-length }
+    { range = well-range _ (k .well); bus = k .bus-length; storage = k .storage-length }
 
 returns-2 : tie.Need-returns-2
 unfolding tickCall

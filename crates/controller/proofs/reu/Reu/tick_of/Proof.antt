@@ -9,7 +9,7 @@ tick-running-requires c κs =
     let its-dma = c .before .before .before .before .dma in
     let its-pre = c .before .before .before .before .before .before .before .before .pre in
     record
-    { sound = rw (its-dma .given .1) at (its-pre .sound); bus = its-pre .bus; storage = its-pre .storage }
+    { range = rw (its-dma .given .1) at (its-pre .range); bus = its-pre .bus; storage = its-pre .storage }
 
 returns : tie.Need-returns
 unfolding tickOf
