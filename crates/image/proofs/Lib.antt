@@ -3,3 +3,5 @@ pub mod Digits
 pub mod Opening
 pub mod Packed
 pub mod Unpacked
+pub mod Sound
+pub mod Valid

@@ -1,7 +1,7 @@
 -- What opening gives, by the test that decides.
 use mathlib.Core.Path.{_≡_, refl, sym, ap, _∙_}
 use mathlib.Core.Bool.{Bool, true, false, cond, _&&_}
-use mathlib.Core.List.{List}
+use mathlib.Core.List.{List, [], _∷_}
 use Prim.Native.Nat.{ℕ}
 use lib.Dec.{ltb}
 use native.Mathlib.Omega.{arith}
@@ -10,11 +10,11 @@ use lib.Dec.{eqb}
 use borrow.Author.Tests.{eq-eqb, ne-eqb, eqb-true}
 use Rattle.controller.specs.declared.reu.Reu.{Reu}
 use Rattle.controller.specs.Enable.{newReu}
-use Rattle.controller.specs.Refusals.{wellFormed}
+use Rattle.controller.specs.Refusals.{wellFormed, checked}
 use Rattle.image.specs.declared.Opened.{Opened}
-use Rattle.image.specs.Layout.{at, gets, packImage, reuAt, storeImage}
+use Rattle.image.specs.Layout.{at, gets, packImage, reuAt}
 use Rattle.image.proofs.Gets.{gets-rest}
-use Rattle.image.specs.Open.{allZero, idleOk, movingOk, bytesOk, imageOk, openImage}
+use Rattle.image.specs.Open.{allZero, idleOk, movingOk, bytesOk, imageOk, openImage, storeImage}
 
 pub open-short : (s : List ℕ) → (length s ≡ 34 → ⊥) → openImage s ≡ record { refusal = 1; reu = newReu }
 unfolding openImage
@@ -35,9 +35,20 @@ pub ok-moving : (s : List ℕ) → (at s 21 ≡ 0 → ⊥) → bytesOk s ≡ ltb
 unfolding bytesOk
 ok-moving s h = ap (λ (t : Bool). ltb (at s 19) 4 && cond t (idleOk s) (movingOk s)) (ne-eqb (at s 21) 0 h)
 
-pub idle-gets : (s : List ℕ) → length s ≡ 34 → allZero true (gets 22 12 s) ≡ idleOk s
+-- the tests one after another, from the first on, are the test of all
+abbrev pub zerosFrom : Bool → List ℕ → Bool
+zerosFrom b [] = b
+zerosFrom b (a ∷ s) = zerosFrom (b && eqb a 0) s
+
+pub zeros-from : (b : Bool) (s : List ℕ) → zerosFrom b s ≡ b && allZero s
+zeros-from true [] = refl
+zeros-from false [] = refl
+zeros-from true (a ∷ s) = zeros-from (eqb a 0) s
+zeros-from false (a ∷ s) = zeros-from false s
+
+pub idle-gets : (s : List ℕ) → length s ≡ 34 → allZero (gets 22 12 s) ≡ idleOk s
 unfolding idleOk
-idle-gets s h = ap (allZero true) (gets-rest s 22 12 h)
+idle-gets s h = ap allZero (gets-rest s 22 12 h)
 
 -- what an accepted image is
 pub opened-long : (s : List ℕ) → openImage s .refusal ≡ 0 → length s ≡ 34
@@ -68,11 +79,22 @@ open-by s u a w t long eu ea ew et =
     (λ i. record { refusal = cond ((sym et ∙ (λ j. ea j && (ew ∙ ap wellFormed eu) j)) i) 0 2; reu = eu i })
     ∙ sym (open-long s long)
 
--- a slice that an image is laid over
-pub store-long : (r : Reu) (out : List ℕ) → length out ≡ 34 → storeImage r out ≡ packImage r
-unfolding storeImage
-store-long r out h = ap (λ (t : Bool). cond t (packImage r) out) (eq-eqb (length out) 34 h)
+-- ---- storing: the cases of its tests
 
-pub store-other : (r : Reu) (out : List ℕ) → (length out ≡ 34 → ⊥) → storeImage r out ≡ out
-unfolding storeImage
-store-other r out h = ap (λ (t : Bool). cond t (packImage r) out) (ne-eqb (length out) 34 h)
+module _ (u : Reu) (s : List ℕ) where
+  pub store-other : (length s ≡ 34 → ⊥) → storeImage u s ≡ (1, s)
+  unfolding storeImage checked
+  store-other h = ap (λ (t : Bool). checked (cond t (cond (wellFormed u) 0 2) 1) (λ n. (n, s)) (0, packImage u)) (ne-eqb (length s) 34 h)
+
+  module _ (h : length s ≡ 34) where
+    by-well : (b : Bool) → wellFormed u ≡ b → storeImage u s ≡ checked (cond b 0 2) (λ n. (n, s)) (0, packImage u)
+    unfolding storeImage
+    by-well b e = λ i. checked (cond (eq-eqb (length s) 34 h i) (cond (e i) 0 2) 1) (λ n. (n, s)) (0, packImage u)
+
+    pub store-good : wellFormed u ≡ true → storeImage u s ≡ (0, packImage u)
+    unfolding checked
+    store-good e = by-well true e
+
+    pub store-bad : wellFormed u ≡ false → storeImage u s ≡ (2, s)
+    unfolding checked
+    store-bad e = by-well false e

@@ -15,18 +15,18 @@ use Rattle.controller.specs.declared.dma.TransferType.{TransferType}
 use Rattle.controller.specs.declared.dma.TransferType.the-variants.{Store, Recall, Swap, Verify}
 use Rattle.controller.specs.declared.dma.SwapPhase.{SwapPhase}
 use Rattle.controller.specs.declared.dma.SwapPhase.the-variants.{ReadC64, WriteC64}
-use Rattle.controller.specs.Bytes.{bitOf}
+use Rattle.controller.specs.Bytes.{bit, bitOf, word, long}
 use Rattle.controller.specs.Reu.{withRegs}
 use Rattle.controller.specs.Dma.{typeOf}
 use Rattle.controller.specs.Refusals.{wellFormed}
-use Rattle.controller.specs.Inner.{SoundDma}
-use Rattle.controller.proofs.WellFormed.{well-sound, well-shadow, well-delay}
+use Rattle.controller.specs.Inner.{InRangeDma}
+use Rattle.controller.proofs.WellFormed.{well-range, well-shadow, well-delay}
 use Rattle.controller.specs.Dma.{typeNumber}
-use Rattle.image.specs.Layout.{isBit, phaseNumber, phaseOf, at, num2, num3, gets, present, flags18, flags19, flags33, transferBytes, middleBytes, packImage, dmaAt, transferAt, reuAt}
+use Rattle.image.specs.Layout.{phaseNumber, phaseOf, at, gets, present, flags18, flags19, flags33, transferBytes, middleBytes, packImage, dmaAt, transferAt, reuAt}
 use Rattle.image.specs.Open.{allZero, idleOk, movingOk, bytesOk, imageOk, openImage}
 use Rattle.image.specs.Valid.{Typed, DmaTyped, Bytes}
 use Rattle.image.proofs.Gets.{gets-all}
-use Rattle.image.proofs.Digits.{bit-le, eight0, eight1, eight2, eight3, eight4, eight5, eight6, eight7, six0, six1, six2, six3, six4, six5, two0, two1, num2-back, num3-back}
+use Rattle.image.proofs.Digits.{bit-le, eight0, eight1, eight2, eight3, eight4, eight5, eight6, eight7, six0, six1, six2, six3, six4, six5, two0, two1, word-back, long-back}
 use Rattle.image.proofs.Opening.{open-good}
 
 pub and-left : (a b : Bool) → a && b ≡ true → a ≡ true
@@ -57,26 +57,26 @@ abbrev tailAt : List ℕ → DmaState
 tailAt l = record {
   «transfer_type» = typeOf (at l 0);
   «swap_phase» = phaseOf (at l 1);
-  «c64_addr» = record { 0 = num2 (at l 2) (at l 3) };
-  «reu_addr» = record { 0 = num3 (at l 4) (at l 5) (at l 6) };
-  remaining = num3 (at l 7) (at l 8) (at l 9);
-  «fix_c64» = isBit (at l 11) 0;
-  «fix_reu» = isBit (at l 11) 1;
-  autoload = isBit (at l 11) 2;
+  «c64_addr» = record { 0 = word (at l 2) (at l 3) };
+  «reu_addr» = record { 0 = long (at l 4) (at l 5) (at l 6) };
+  remaining = long (at l 7) (at l 8) (at l 9);
+  «fix_c64» = bit (at l 11) 0;
+  «fix_reu» = bit (at l 11) 1;
+  autoload = bit (at l 11) 2;
   latch = at l 10;
-  «first_byte» = isBit (at l 11) 3;
-  «read_clock_odd» = isBit (at l 11) 4;
-  «verify_tail» = isBit (at l 11) 5;
+  «first_byte» = bit (at l 11) 3;
+  «read_clock_odd» = bit (at l 11) 4;
+  «verify_tail» = bit (at l 11) 5;
 }
 
-module _ (d : DmaState) (c64 : d .«c64_addr» .0 < 65536) (reu : d .«reu_addr» .0 < 16777216) (left : d .remaining < 16777216) where
+module _ (d : DmaState) (c64 : d .«c64_addr» .0 < 65536) (exp : d .«reu_addr» .0 < 16777216) (left : d .remaining < 16777216) where
   transfer-back : tailAt (transferBytes (Running d)) ≡ d
   transfer-back = λ i. record {
     «transfer_type» = type-back (d .«transfer_type») i;
     «swap_phase» = phase-back (d .«swap_phase») i;
-    «c64_addr» = record { 0 = num2-back (d .«c64_addr» .0) c64 i };
-    «reu_addr» = record { 0 = num3-back (d .«reu_addr» .0) reu i };
-    remaining = num3-back (d .remaining) left i;
+    «c64_addr» = record { 0 = word-back (d .«c64_addr» .0) c64 i };
+    «reu_addr» = record { 0 = long-back (d .«reu_addr» .0) exp i };
+    remaining = long-back (d .remaining) left i;
     «fix_c64» = six0 (d .«fix_c64») (d .«fix_reu») (d .autoload) (d .«first_byte») (d .«read_clock_odd») (d .«verify_tail») i;
     «fix_reu» = six1 (d .«fix_c64») (d .«fix_reu») (d .autoload) (d .«first_byte») (d .«read_clock_odd») (d .«verify_tail») i;
     autoload = six2 (d .«fix_c64») (d .«fix_reu») (d .autoload) (d .«first_byte») (d .«read_clock_odd») (d .«verify_tail») i;
@@ -86,7 +86,7 @@ module _ (d : DmaState) (c64 : d .«c64_addr» .0 < 65536) (reu : d .«reu_addr�
     «verify_tail» = six5 (d .«fix_c64») (d .«fix_reu») (d .autoload) (d .«first_byte») (d .«read_clock_odd») (d .«verify_tail») i;
   }
 
-dma-back : (m : Dma) → DmaTyped m → SoundDma m → cond (eqb (present m) 0) Idle (Running (tailAt (transferBytes m))) ≡ m
+dma-back : (m : Dma) → DmaTyped m → InRangeDma m → cond (eqb (present m) 0) Idle (Running (tailAt (transferBytes m))) ≡ m
 dma-back Idle h s = refl
 dma-back (Running d) h s = ap Running (transfer-back d (h .0) (s .addr) (omega (arith, s .high)))
 
@@ -111,7 +111,7 @@ flags-lt d =
     (omega (arith, bit-le (d .«fix_c64»), bit-le (d .«fix_reu»), bit-le (d .autoload), bit-le (d .«first_byte»), bit-le (d .«read_clock_odd»), bit-le (d .«verify_tail»)))
 
 tail-ok : (m : Dma)
-    → cond (eqb (present m) 0) (allZero true (transferBytes m))
+    → cond (eqb (present m) 0) (allZero (transferBytes m))
     (eqb (present m) 1 && leb (at (transferBytes m) 0) 3 && leb (at (transferBytes m) 1) 1 && ltb (at (transferBytes m) 11) 64)
     ≡ true
 tail-ok Idle = refl
@@ -122,9 +122,9 @@ module _ (r : Reu) (typed : Typed r) (ok : wellFormed r ≡ true) where
   unfolding reuAt
   back = λ i. record {
     regs = gets 0 11 (r .regs);
-    «shadow_c64_addr» = num2-back (r .«shadow_c64_addr») (typed .c64-fits) i;
-    «shadow_reu_addr» = num3-back (r .«shadow_reu_addr») (well-shadow r ok) i;
-    «shadow_len» = num2-back (r .«shadow_len») (typed .len-fits) i;
+    «shadow_c64_addr» = word-back (r .«shadow_c64_addr») (typed .c64-fits) i;
+    «shadow_reu_addr» = long-back (r .«shadow_reu_addr») (well-shadow r ok) i;
+    «shadow_len» = word-back (r .«shadow_len») (typed .len-fits) i;
     enabled = eight0 (r .enabled) (r .«irq_pending») (r .attached) (r .«waiting_ff00») (r .«ba_was_high») (r .«recall_repeat») (r .«terminal_swap_write») (r .«late_ba_fall») i;
     «irq_pending» = eight1 (r .enabled) (r .«irq_pending») (r .attached) (r .«waiting_ff00») (r .«ba_was_high») (r .«recall_repeat») (r .«terminal_swap_write») (r .«late_ba_fall») i;
     attached = eight2 (r .enabled) (r .«irq_pending») (r .attached) (r .«waiting_ff00») (r .«ba_was_high») (r .«recall_repeat») (r .«terminal_swap_write») (r .«late_ba_fall») i;
@@ -136,7 +136,7 @@ module _ (r : Reu) (typed : Typed r) (ok : wellFormed r ≡ true) where
     «swap_refresh» = two0 (r .«swap_refresh») (r .«swap_release_pending») i;
     «swap_release_pending» = two1 (r .«swap_refresh») (r .«swap_release_pending») i;
     «swap_read_delay» = r .«swap_read_delay»;
-    dma = dma-back (r .dma) (typed .dma-fits) (well-sound r ok) i;
+    dma = dma-back (r .dma) (typed .dma-fits) (well-range r ok) i;
   }
 
   -- with the registers as they are

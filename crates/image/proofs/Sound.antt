@@ -26,8 +26,8 @@ use Rattle.controller.specs.declared.timing.ReuBusAction.the-variants.{Cpu, Hol
 use Rattle.controller.specs.Reu
 use Rattle.controller.specs.Bytes.{bit, word, withLow, withHigh}
 use Rattle.controller.specs.Reu.{reuOf, reg, setReg, withRegs, withIrq, withArmed, withDma, withHistory, withTerminal, withDelay, withRefresh, withRepeat, withRelease, withOdd, withLatch, withTail, cleared}
-use Rattle.controller.specs.Registers.{readRegister, writeRegister, writeCommand, writeC64, writeReu, writeLen, writeBank}
-use Rattle.controller.specs.Memory.{nextC64, nextReu, busByte, storageByte, setStorage, zeros}
+use Rattle.controller.specs.Registers.{readRegister, writeRegister, writeCommand, writeC64, writeExp, writeLen, writeBank}
+use Rattle.controller.specs.Memory.{nextC64, nextExp, busByte, storageByte, setStorage, zeros}
 use Rattle.controller.specs.Timing.{reads, writes, c64Access}
 use Rattle.controller.specs.Dma.{runs, isType, lengthOf, moved, firstByte, lastByte, isWritePhase}
 use Rattle.controller.specs.StartDma.{requested, startDma, triggerFf00}
@@ -36,9 +36,10 @@ use Rattle.controller.specs.Enable.{newReu, fresh, connected, setEnabled}
 use Rattle.controller.specs.BusAction.{fallOnSwapWrite, Granted, readAgain, restored, giveUp, plain, fallOnWrite, fall, fallOnRead, decide, resumed, repeated, busAction, swapReads, swapWrites, cpuReadyAfterDma}
 use Rattle.controller.specs.TickDma.{Ticked, ticked, advance, tickStore, tickRecall, swapRead, swapWrite, tickSwap, withError, tickVerify, tickByType, tickRefresh, tickTail, tickRunning, tickOf, tickDma, recalled, differs}
 use Rattle.controller.specs.Cycle.{cycleBy, runReuCycle}
 use Rattle.image.proofs.Packed.{all-below}
+use Rattle.controller.proofs.Pick.{by-test}
 use Rattle.controller.proofs.WellFormed.{fst, snd}
 use Rattle.image.specs.Valid.{Bytes}
 
 -- ---- bytes
 
@@ -64,7 +65,7 @@ regs-set l i v h hv = record { len = length-set l i v ∙ h .len; bytes = set-be
 pub record SoundTransfer (attached : Bool) (d : DmaState) : Type 0 where
   pub present : attached ≡ true
   pub c64 : d .«c64_addr» .0 < 65536
-  pub reu : d .«reu_addr» .0 < 16777216
+  pub exp : d .«reu_addr» .0 < 16777216
   pub low : 1 ≤ d .remaining
   pub high : d .remaining ≤ 65536
   pub latch : d .latch < 256
@@ -78,22 +79,17 @@ SoundDma attached (Running d) = SoundTransfer attached d
 pub record Sound (u : Reu) : Type 0 where
   pub regs : SoundRegs (u .regs)
   pub c64 : u .«shadow_c64_addr» < 65536
-  pub reu : u .«shadow_reu_addr» < 16777216
+  pub exp : u .«shadow_reu_addr» < 16777216
   pub len : u .«shadow_len» < 65536
   pub delay : u .«swap_read_delay» < 3
   pub dma : SoundDma (u .attached) (u .dma)
 
--- a choice, with what the test says in each case
-pub either {ℓ} : {A : Type ℓ} (P : A → Type 0) (b : Bool) (x y : A) → (b ≡ true → P x) → (b ≡ false → P y) → P (cond b x y)
-either P true x y f g = f refl
-either P false x y f g = g refl
-
 -- other registers, the same rest
 with-regs : (u : Reu) (l : List ℕ) → Sound u → SoundRegs l → Sound (withRegs u l)
-with-regs u l s r = record { regs = r; c64 = s .c64; reu = s .reu; len = s .len; delay = s .delay; dma = s .dma }
+with-regs u l s r = record { regs = r; c64 = s .c64; exp = s .exp; len = s .len; delay = s .delay; dma = s .dma }
 
 with-dma : (u : Reu) (d : Dma) → Sound u → SoundDma (u .attached) d → Sound (withDma u d)
-with-dma u d s h = record { regs = s .regs; c64 = s .c64; reu = s .reu; len = s .len; delay = s .delay; dma = h }
+with-dma u d s h = record { regs = s .regs; c64 = s .c64; exp = s .exp; len = s .len; delay = s .delay; dma = h }
 
 with-reg : (u : Reu) (i v : ℕ) → Sound u → v < 256 → Sound (setReg u i v)
 with-reg u i v s h = with-regs u (set (u .regs) i v) s (regs-set (u .regs) i v (s .regs) h)
@@ -102,7 +98,7 @@ with-reg u i v s h = with-regs u (set (u .regs) i v) s (regs-set (u .regs) i v (
 flags-aside : {enabled irq waiting was repeat terminal late refresh release : Bool} (u : Reu) → Sound u
     → Sound (reuOf (u .regs) (u .«shadow_c64_addr») (u .«shadow_reu_addr») (u .«shadow_len») enabled irq (u .attached) waiting was repeat terminal late refresh
     release (u .«swap_read_delay») (u .dma))
-flags-aside u s = record { regs = s .regs; c64 = s .c64; reu = s .reu; len = s .len; delay = s .delay; dma = s .dma }
+flags-aside u s = record { regs = s .regs; c64 = s .c64; exp = s .exp; len = s .len; delay = s .delay; dma = s .dma }
 
 byte-and : (x y : ℕ) → x < 256 → bitAnd x y < 256
 byte-and x y h = omega (arith, and-le-l x y)
@@ -115,8 +111,8 @@ byte-or x y h k = or-lt 8 x y h k
 pub sound-read : (u : Reu) (a : ℕ) → Sound u → Sound (readRegister u a .reu)
 unfolding readRegister
 sound-read u a s =
-    either (λ (r : ReadAnswer). Sound (r .reu)) (ltb (bitAnd a 31) 11) _ _
-    (λ _. either (λ (r : ReadAnswer). Sound (r .reu)) (eqb (bitAnd a 31) 0) _ _
+    by-test (λ (r : ReadAnswer). Sound (r .reu)) (ltb (bitAnd a 31) 11) _ _
+    (λ _. by-test (λ (r : ReadAnswer). Sound (r .reu)) (eqb (bitAnd a 31) 0) _ _
     (λ _. flags-aside (setReg u 0 (bitAnd (reg u 0) 31)) (with-reg u 0 (bitAnd (reg u 0) 31) s (byte-and (reg u 0) 31 (s .regs .bytes 0))))
     (λ _. s))
     (λ _. s)
@@ -124,7 +120,7 @@ sound-read u a s =
 -- ---- write
 
 status-regs : (l : List ℕ) (v w : ℕ) (b : Bool) → SoundRegs l → w < 256 → SoundRegs (cond b (set l 0 w) l)
-status-regs l v w b r h = either SoundRegs b (set l 0 w) l (λ _. regs-set l 0 w r h) (λ _. r)
+status-regs l v w b r h = by-test SoundRegs b (set l 0 w) l (λ _. regs-set l 0 w r h) (λ _. r)
 
 sound-irq : (u : Reu) → Sound u → Sound (updateIrq u)
 unfolding updateIrq
@@ -135,10 +131,10 @@ sound-irq u s =
 
 pub length-range : (q : ℕ) → q < 65536 → (1 ≤ lengthOf q) × (lengthOf q ≤ 65536)
 unfolding lengthOf
-length-range q h = either (λ (n : ℕ). (1 ≤ n) × (n ≤ 65536)) (eqb q 0) 65536 q (λ _. omega arith) (λ ne. omega (arith, eqb-false q 0 ne))
+length-range q h = by-test (λ (n : ℕ). (1 ≤ n) × (n ≤ 65536)) (eqb q 0) 65536 q (λ _. omega arith) (λ ne. omega (arith, eqb-false q 0 ne))
 
 sound-cleared : (u : Reu) → Sound u → Sound (cleared u)
-sound-cleared u s = record { regs = s .regs; c64 = s .c64; reu = s .reu; len = s .len; delay = omega arith; dma = s .dma }
+sound-cleared u s = record { regs = s .regs; c64 = s .c64; exp = s .exp; len = s .len; delay = omega arith; dma = s .dma }
 
 sound-requested : (u : Reu) → Sound u → u .attached ≡ true → SoundTransfer (u .attached) (requested u)
 unfolding requested
@@ -151,12 +147,12 @@ sound-requested u s att =
     let b7 = s .regs .bytes 7 in
     let b8 = s .regs .bytes 8 in
     let r = length-range (word (reg u 7) (reg u 8)) (omega arith) in
-    record { present = att; c64 = omega arith; reu = omega arith; low = r .0; high = r .1; latch = omega arith; phase = refl; tail = refl }
+    record { present = att; c64 = omega arith; exp = omega arith; low = r .0; high = r .1; latch = omega arith; phase = refl; tail = refl }
 
 sound-start : (u : Reu) → Sound u → Sound (startDma u)
 unfolding startDma
 sound-start u s =
-    either Sound (u .attached) _ _
+    by-test Sound (u .attached) _ _
     (λ att. with-dma (withIrq (setReg (cleared u) 0 (bitAnd (reg u 0) 16)) false) (Running (requested u))
     (flags-aside (setReg (cleared u) 0 (bitAnd (reg u 0) 16)) (with-reg (cleared u) 0 (bitAnd (reg u 0) 16) (sound-cleared u s) (byte-and (reg u 0) 16 (s .regs .bytes 0))))
     (sound-requested u s att))
@@ -165,41 +161,41 @@ sound-start u s =
 sound-command : (u : Reu) (v : ℕ) → Sound u → v < 256 → Sound (writeCommand u v)
 unfolding writeCommand
 sound-command u v s h =
-    either Sound (bit v 7) _ _
-    (λ _. either Sound (bit v 4) _ _ (λ _. sound-start (withArmed (setReg u 1 v) false) (flags-aside (setReg u 1 v) (with-reg u 1 v s h))) (λ _. flags-aside (setReg u 1 v) (with-reg u 1 v s h)))
+    by-test Sound (bit v 7) _ _
+    (λ _. by-test Sound (bit v 4) _ _ (λ _. sound-start (withArmed (setReg u 1 v) false) (flags-aside (setReg u 1 v) (with-reg u 1 v s h))) (λ _. flags-aside (setReg u 1 v) (with-reg u 1 v s h)))
     (λ _. flags-aside (setReg u 1 v) (with-reg u 1 v s h))
 
 pair-regs : (l : List ℕ) (i j n : ℕ) → SoundRegs l → SoundRegs (set (set l i (n % 256)) j (n / 256 % 256))
 pair-regs l i j n r = regs-set (set l i (n % 256)) j (n / 256 % 256) (regs-set l i (n % 256) r (omega arith)) (omega arith)
 
 sound-c64 : (u : Reu) (n : ℕ) → Sound u → n < 65536 → Sound (writeC64 u n)
-sound-c64 u n s h = record { regs = pair-regs (u .regs) 2 3 n (s .regs); c64 = h; reu = s .reu; len = s .len; delay = s .delay; dma = s .dma }
+sound-c64 u n s h = record { regs = pair-regs (u .regs) 2 3 n (s .regs); c64 = h; exp = s .exp; len = s .len; delay = s .delay; dma = s .dma }
 
-sound-reu : (u : Reu) (n : ℕ) → Sound u → n < 16777216 → Sound (writeReu u n)
-sound-reu u n s h = record { regs = pair-regs (u .regs) 4 5 n (s .regs); c64 = s .c64; reu = h; len = s .len; delay = s .delay; dma = s .dma }
+sound-exp : (u : Reu) (n : ℕ) → Sound u → n < 16777216 → Sound (writeExp u n)
+sound-exp u n s h = record { regs = pair-regs (u .regs) 4 5 n (s .regs); c64 = s .c64; exp = h; len = s .len; delay = s .delay; dma = s .dma }
 
 sound-len : (u : Reu) (n : ℕ) → Sound u → n < 65536 → Sound (writeLen u n)
-sound-len u n s h = record { regs = pair-regs (u .regs) 7 8 n (s .regs); c64 = s .c64; reu = s .reu; len = h; delay = s .delay; dma = s .dma }
+sound-len u n s h = record { regs = pair-regs (u .regs) 7 8 n (s .regs); c64 = s .c64; exp = s .exp; len = h; delay = s .delay; dma = s .dma }
 
 sound-bank : (u : Reu) (w : ℕ) → Sound u → w < 256 → Sound (writeBank u w)
-sound-bank u w s h = record { regs = regs-set (u .regs) 6 w (s .regs) h; c64 = s .c64; reu = omega arith; len = s .len; delay = s .delay; dma = s .dma }
+sound-bank u w s h = record { regs = regs-set (u .regs) 6 w (s .regs) h; c64 = s .c64; exp = omega arith; len = s .len; delay = s .delay; dma = s .dma }
 
 pub sound-write : (u : Reu) (a v : ℕ) → Sound u → v < 256 → Sound (writeRegister u a v)
 unfolding writeRegister
 sound-write u a v s h =
     let c = s .c64 in
-    let e = s .reu in
+    let e = s .exp in
     let n = s .len in
-    either Sound (eqb (bitAnd a 31) 1) _ _ (λ _. sound-command u v s h)
-    (λ _. either Sound (eqb (bitAnd a 31) 2) _ _ (λ _. sound-c64 u (withLow (u .«shadow_c64_addr») v) s (omega arith))
-    (λ _. either Sound (eqb (bitAnd a 31) 3) _ _ (λ _. sound-c64 u (withHigh (u .«shadow_c64_addr») v) s (omega arith))
-    (λ _. either Sound (eqb (bitAnd a 31) 4) _ _ (λ _. sound-reu u (withLow (u .«shadow_reu_addr») v) s (omega arith))
-    (λ _. either Sound (eqb (bitAnd a 31) 5) _ _ (λ _. sound-reu u (withHigh (u .«shadow_reu_addr») v) s (omega arith))
-    (λ _. either Sound (eqb (bitAnd a 31) 6) _ _ (λ _. sound-bank u (bitOr v 248) s (byte-or v 248 h (omega arith)))
-    (λ _. either Sound (eqb (bitAnd a 31) 7) _ _ (λ _. sound-len u (withLow (u .«shadow_len») v) s (omega arith))
-    (λ _. either Sound (eqb (bitAnd a 31) 8) _ _ (λ _. sound-len u (withHigh (u .«shadow_len») v) s (omega arith))
-    (λ _. either Sound (eqb (bitAnd a 31) 9) _ _ (λ _. sound-irq (setReg u 9 (bitOr v 31)) (with-reg u 9 (bitOr v 31) s (byte-or v 31 h (omega arith))))
-    (λ _. either Sound (eqb (bitAnd a 31) 10) _ _ (λ _. with-reg u 10 (bitOr v 63) s (byte-or v 63 h (omega arith))) (λ _. s))))))))))
+    by-test Sound (eqb (bitAnd a 31) 1) _ _ (λ _. sound-command u v s h)
+    (λ _. by-test Sound (eqb (bitAnd a 31) 2) _ _ (λ _. sound-c64 u (withLow (u .«shadow_c64_addr») v) s (omega arith))
+    (λ _. by-test Sound (eqb (bitAnd a 31) 3) _ _ (λ _. sound-c64 u (withHigh (u .«shadow_c64_addr») v) s (omega arith))
+    (λ _. by-test Sound (eqb (bitAnd a 31) 4) _ _ (λ _. sound-exp u (withLow (u .«shadow_reu_addr») v) s (omega arith))
+    (λ _. by-test Sound (eqb (bitAnd a 31) 5) _ _ (λ _. sound-exp u (withHigh (u .«shadow_reu_addr») v) s (omega arith))
+    (λ _. by-test Sound (eqb (bitAnd a 31) 6) _ _ (λ _. sound-bank u (bitOr v 248) s (byte-or v 248 h (omega arith)))
+    (λ _. by-test Sound (eqb (bitAnd a 31) 7) _ _ (λ _. sound-len u (withLow (u .«shadow_len») v) s (omega arith))
+    (λ _. by-test Sound (eqb (bitAnd a 31) 8) _ _ (λ _. sound-len u (withHigh (u .«shadow_len») v) s (omega arith))
+    (λ _. by-test Sound (eqb (bitAnd a 31) 9) _ _ (λ _. sound-irq (setReg u 9 (bitOr v 31)) (with-reg u 9 (bitOr v 31) s (byte-or v 31 h (omega arith))))
+    (λ _. by-test Sound (eqb (bitAnd a 31) 10) _ _ (λ _. with-reg u 10 (bitOr v 63) s (byte-or v 63 h (omega arith))) (λ _. s))))))))))
 
 -- ---- the grant
 
@@ -218,7 +214,7 @@ IsPair n p = SoundPair n (p .0) (p .1)
 restored-sound : (att : Bool) (d : Dma) → SoundDma att d → SoundDma att (readAgain d)
 restored-sound att Idle h = tt
 restored-sound att (Running d) h =
-    record { present = h .present; c64 = h .c64; reu = h .reu; low = h .low; high = h .high; latch = h .latch; phase = refl; tail = h .tail }
+    record { present = h .present; c64 = h .c64; exp = h .exp; low = h .low; high = h .high; latch = h .latch; phase = refl; tail = h .tail }
 
 restored-bytes : (att : Bool) (d : Dma) (n : ℕ) (s : List ℕ) → SoundDma att d → Bytes s → length s ≡ n
     → Bytes (restored d s) × (length (restored d s) ≡ n)
@@ -234,7 +230,7 @@ gives-up n u s p =
 sound-resumed : (n : ℕ) (u : Reu) (s : List ℕ) (b : Bool) (i : ℕ) → SoundPair n u s → IsPair n (resumed u s b i)
 unfolding resumed
 sound-resumed n u s b i p =
-    either (IsPair n) (b && (swapWrites (u .dma) && Bool·beq (runs (λ d. d .«read_clock_odd») (u .dma)) (bit i 0))) (giveUp u s) (u, s) (λ _. gives-up n u s p) (λ _. p)
+    by-test (IsPair n) (b && (swapWrites (u .dma) && Bool·beq (runs (λ d. d .«read_clock_odd») (u .dma)) (bit i 0))) (giveUp u s) (u, s) (λ _. gives-up n u s p) (λ _. p)
 
 sound-repeated : (u : Reu) (b : Bool) → Sound u → Sound (repeated u b)
 unfolding repeated
@@ -244,7 +240,7 @@ sound-repeated u b s = flags-aside u s
 module _ (n : ℕ) (u : Reu) (s : List ℕ) (p : SoundPair n u s) where
   same : (t r : Bool) (d : ℕ) → d < 3 → SoundPair n (withTerminal (withRefresh (withDelay u d) r) t) s
   same t r d h =
-      record { sound = record { regs = p .sound .regs; c64 = p .sound .c64; reu = p .sound .reu; len = p .sound .len; delay = h; dma = p .sound .dma }; bytes = p .bytes; size = p .size }
+      record { sound = record { regs = p .sound .regs; c64 = p .sound .c64; exp = p .sound .exp; len = p .sound .len; delay = h; dma = p .sound .dma }; bytes = p .bytes; size = p .size }
 
   same-delay : (d : ℕ) → d < 3 → SoundPair n (withDelay u d) s
   same-delay d h = same (u .«terminal_swap_write») (u .«swap_refresh») d h
@@ -252,29 +248,29 @@ module _ (n : ℕ) (u : Reu) (s : List ℕ) (p : SoundPair n u s) where
   on-read : SoundPair n (fallOnRead u .reu) s
   unfolding fallOnRead
   on-read =
-      either (λ (b : BusAnswer). SoundPair n (b .reu) s) (firstByte (u .dma)) _ _ (λ _. p)
-      (λ _. either (λ (b : BusAnswer). SoundPair n (b .reu) s) (lastByte (u .dma)) _ _ (λ _. same true (u .«swap_refresh») (u .«swap_read_delay») (p .sound .delay))
+      by-test (λ (b : BusAnswer). SoundPair n (b .reu) s) (firstByte (u .dma)) _ _ (λ _. p)
+      (λ _. by-test (λ (b : BusAnswer). SoundPair n (b .reu) s) (lastByte (u .dma)) _ _ (λ _. same true (u .«swap_refresh») (u .«swap_read_delay») (p .sound .delay))
       (λ _. same-delay 2 (omega arith)))
 
   on-swap-write : (l : Bool) → IsGrant n (fallOnSwapWrite u s l)
   unfolding fallOnSwapWrite
   on-swap-write l =
-      either (IsGrant n) l _ _ (λ _. same (u .«terminal_swap_write») true 1 (omega arith)) (λ _. gives-up n u s p)
+      by-test (IsGrant n) l _ _ (λ _. same (u .«terminal_swap_write») true 1 (omega arith)) (λ _. gives-up n u s p)
 
   on-fall : (l : Bool) → IsGrant n (fall u s l)
   unfolding fall plain fallOnWrite
   on-fall l =
-      either (IsGrant n) (swapReads (u .dma)) _ _ (λ _. on-read)
-      (λ _. either (IsGrant n) (reads (c64Access u)) _ _ (λ _. p)
-      (λ _. either (IsGrant n) (swapWrites (u .dma)) _ _ (λ _. on-swap-write l)
-      (λ _. either (IsGrant n) (writes (c64Access u)) _ _
-      (λ _. either (λ (b : BusAnswer). SoundPair n (b .reu) s) (lastByte (u .dma)) _ _ (λ _. p) (λ _. p)) (λ _. p))))
+      by-test (IsGrant n) (swapReads (u .dma)) _ _ (λ _. on-read)
+      (λ _. by-test (IsGrant n) (reads (c64Access u)) _ _ (λ _. p)
+      (λ _. by-test (IsGrant n) (swapWrites (u .dma)) _ _ (λ _. on-swap-write l)
+      (λ _. by-test (IsGrant n) (writes (c64Access u)) _ _
+      (λ _. by-test (λ (b : BusAnswer). SoundPair n (b .reu) s) (lastByte (u .dma)) _ _ (λ _. p) (λ _. p)) (λ _. p))))
 
   sound-decide : (h f l : Bool) → IsGrant n (decide u s h f l)
   unfolding decide plain
   sound-decide h f l =
-      either (IsGrant n) (u .«terminal_swap_write») _ _ (λ _. same false (u .«swap_refresh») (u .«swap_read_delay») (p .sound .delay))
-      (λ _. either (IsGrant n) (eqb (u .«swap_read_delay») 0) _ _ (λ _. either (IsGrant n) f _ _ (λ _. on-fall l) (λ _. p))
+      by-test (IsGrant n) (u .«terminal_swap_write») _ _ (λ _. same false (u .«swap_refresh») (u .«swap_read_delay») (p .sound .delay))
+      (λ _. by-test (IsGrant n) (eqb (u .«swap_read_delay») 0) _ _ (λ _. by-test (IsGrant n) f _ _ (λ _. on-fall l) (λ _. p))
       (λ _. same-delay (u .«swap_read_delay» - 1) (omega (arith, p .sound .delay))))
 
 pub sound-grant : (n : ℕ) (u : Reu) (s : List ℕ) (h p : Bool) (i : ℕ) → SoundPair n u s → IsGrant n (busAction u s h p i)
@@ -308,7 +304,7 @@ sound-publish u d s h = with-regs u _ s (regs-counters (u .regs) (d .«c64_addr�
 
 finished-status : (l : List ℕ) (done : Bool) → SoundRegs l → SoundRegs (finishedStatus l done)
 finished-status l done r =
-    either SoundRegs done (set l 0 (bitOr (getD l 0 0) 64)) l (λ _. regs-set l 0 (bitOr (getD l 0 0) 64) r (byte-or (getD l 0 0) 64 (r .bytes 0) (omega arith))) (λ _. r)
+    by-test SoundRegs done (set l 0 (bitOr (getD l 0 0) 64)) l (λ _. regs-set l 0 (bitOr (getD l 0 0) 64) r (byte-or (getD l 0 0) 64 (r .bytes 0) (omega arith))) (λ _. r)
 
 finished-command : (l : List ℕ) → SoundRegs l → SoundRegs (finishedCommand l)
 finished-command l r =
@@ -318,7 +314,7 @@ sound-autoloaded : (u : Reu) (b : Bool) → Sound u → Sound (autoloaded u b)
 unfolding autoloaded
 sound-autoloaded u b s =
     with-regs u (cond b (counters (u .regs) (u .«shadow_c64_addr») (u .«shadow_reu_addr») (u .«shadow_len»)) (u .regs)) s
-    (either SoundRegs b _ _ (λ _. regs-counters (u .regs) (u .«shadow_c64_addr») (u .«shadow_reu_addr») (u .«shadow_len») (s .regs) (s .c64)) (λ _. s .regs))
+    (by-test SoundRegs b _ _ (λ _. regs-counters (u .regs) (u .«shadow_c64_addr») (u .«shadow_reu_addr») (u .«shadow_len») (s .regs) (s .c64)) (λ _. s .regs))
 
 sound-finish : (u : Reu) (d : DmaState) (done : Bool) → Sound u → Sound (finishDma u d done)
 unfolding finishDma
@@ -334,10 +330,10 @@ sound-moved att d h e =
     let hi = h .high in
     record {
       present = h .present;
-      c64 = either (λ (a : C64Address). a .0 < 65536) (d .«fix_c64») (d .«c64_addr») (nextC64 (d .«c64_addr»)) (λ _. h .c64) (λ _. omega arith);
-      reu = either (λ (a : ExpansionAddress). a .0 < 16777216) (d .«fix_reu») (d .«reu_addr») (nextReu (d .«reu_addr»)) (λ _. h .reu) (λ _. omega arith);
-      low = either (λ (q : ℕ). 1 ≤ q) (eqb (d .remaining) 1) (d .remaining) (d .remaining - 1) (λ _. lo) (λ ne. omega (arith, eqb-false (d .remaining) 1 ne));
-      high = either (λ (q : ℕ). q ≤ 65536) (eqb (d .remaining) 1) (d .remaining) (d .remaining - 1) (λ _. hi) (λ ne. omega arith);
+      c64 = by-test (λ (a : C64Address). a .0 < 65536) (d .«fix_c64») (d .«c64_addr») (nextC64 (d .«c64_addr»)) (λ _. h .c64) (λ _. omega arith);
+      exp = by-test (λ (a : ExpansionAddress). a .0 < 16777216) (d .«fix_reu») (d .«reu_addr») (nextExp (d .«reu_addr»)) (λ _. h .exp) (λ _. omega arith);
+      low = by-test (λ (q : ℕ). 1 ≤ q) (eqb (d .remaining) 1) (d .remaining) (d .remaining - 1) (λ _. lo) (λ ne. omega (arith, eqb-false (d .remaining) 1 ne));
+      high = by-test (λ (q : ℕ). q ≤ 65536) (eqb (d .remaining) 1) (d .remaining) (d .remaining - 1) (λ _. hi) (λ ne. omega arith);
       latch = h .latch;
       phase = refl;
       tail = ap (λ (b : Bool). not b || (isType (d .«transfer_type») Verify && eqb (moved d .remaining) 1)) e;
@@ -353,13 +349,13 @@ module _ (k n : ℕ) where
   sound-advance u d error low h t e v =
       let mv = sound-moved (u .attached) d t e in
       let pu = sound-publish u (moved d) h (mv .c64) in
-      either (λ (f : FlagAnswer). Sound (f .reu)) (error && (not (eqb (d .remaining) 1) && eqb (moved d .remaining) 1)) _ _
+      by-test (λ (f : FlagAnswer). Sound (f .reu)) (error && (not (eqb (d .remaining) 1) && eqb (moved d .remaining) 1)) _ _
       (λ q.
       with-dma (publishLiveCounters u (moved d)) (Running (withTail (moved d) true)) pu
       (record {
         present = mv .present;
         c64 = mv .c64;
-        reu = mv .reu;
+        exp = mv .exp;
         low = mv .low;
         high = mv .high;
         latch = mv .latch;
@@ -368,7 +364,7 @@ module _ (k n : ℕ) where
             ap (λ (b : Bool). b && eqb (moved d .remaining) 1) (v (fst error (not (eqb (d .remaining) 1) && eqb (moved d .remaining) 1) q))
             ∙ snd (not (eqb (d .remaining) 1)) (eqb (moved d .remaining) 1) (snd error (not (eqb (d .remaining) 1) && eqb (moved d .remaining) 1) q);
       }))
-      (λ _. either (λ (f : FlagAnswer). Sound (f .reu)) (eqb (d .remaining) 1 || error) _ _
+      (λ _. by-test (λ (f : FlagAnswer). Sound (f .reu)) (eqb (d .remaining) 1 || error) _ _
       (λ _.
       sound-finish (withRelease (publishLiveCounters u (moved d)) (eqb (d .remaining) 1 && (isType (d .«transfer_type») Swap && not low))) (moved d) (eqb (d .remaining) 1)
       (flags-aside (publishLiveCounters u (moved d)) pu))
@@ -388,13 +384,13 @@ module _ (k n : ℕ) where
       record { sound = sound-advance u d false low h tr e never; bus = bm; storage = q .0; bus-size = em; storage-size = q .1 }
   sound-by-type Recall u d m s i low et h tr e bm bs em es =
       let v : recalled u d s < 256
-      = either (λ (x : ℕ). x < 256) (u .«recall_repeat» && not (d .«first_byte»)) (d .latch) (storageByte s (d .«reu_addr»)) (λ _. tr .latch) (λ _. bs .below (d .«reu_addr» .0 % 524288)) in
+      = by-test (λ (x : ℕ). x < 256) (u .«recall_repeat» && not (d .«first_byte»)) (d .latch) (storageByte s (d .«reu_addr»)) (λ _. tr .latch) (λ _. bs .below (d .«reu_addr» .0 % 524288)) in
       let q = put m (d .«c64_addr» .0) (recalled u d s) k bm v em in
       record {
         sound =
             sound-advance (withRepeat u (u .«recall_repeat» && d .«first_byte»)) (withLatch d (recalled u d s)) false low
             (flags-aside u h)
-            (record { present = tr .present; c64 = tr .c64; reu = tr .reu; low = tr .low; high = tr .high; latch = v; phase = tr .phase; tail = tr .tail }) e never;
+            (record { present = tr .present; c64 = tr .c64; exp = tr .exp; low = tr .low; high = tr .high; latch = v; phase = tr .phase; tail = tr .tail }) e never;
         bus = q .0;
         storage = bs;
         bus-size = q .1;
@@ -410,7 +406,7 @@ module _ (k n : ℕ) where
           (record {
             present = tr .present;
             c64 = tr .c64;
-            reu = tr .reu;
+            exp = tr .exp;
             low = tr .low;
             high = tr .high;
             latch = bs .below (d .«reu_addr» .0 % 524288);
@@ -438,14 +434,14 @@ module _ (k n : ℕ) where
       → length m ≡ k → length s ≡ n → SoundTick k n (tickRunning u d m s i low)
   unfolding tickRunning tickRefresh tickTail
   sound-running u d m s i low h tr bm bs em es =
-      either (SoundTick k n) (u .«swap_refresh») _ _
+      by-test (SoundTick k n) (u .«swap_refresh») _ _
       (λ _.
       let q = put s (d .«reu_addr» .0 % 524288) (busByte m (d .«c64_addr»)) n bs (bm .below (d .«c64_addr» .0)) es in
       sound-ticked true _ m (setStorage s (d .«reu_addr») (busByte m (d .«c64_addr»)))
       (with-dma (withRefresh u false) (Running (withOdd d (bit i 0))) (flags-aside u h)
-      (record { present = tr .present; c64 = tr .c64; reu = tr .reu; low = tr .low; high = tr .high; latch = tr .latch; phase = tr .phase; tail = tr .tail }))
+      (record { present = tr .present; c64 = tr .c64; exp = tr .exp; low = tr .low; high = tr .high; latch = tr .latch; phase = tr .phase; tail = tr .tail }))
       bm (q .0) em (q .1))
-      (λ _. either (SoundTick k n) (d .«verify_tail») _ _ (λ _. sound-ticked false _ m s (sound-finish u d (not (differs d m s)) h) bm bs em es)
+      (λ _. by-test (SoundTick k n) (d .«verify_tail») _ _ (λ _. sound-ticked false _ m s (sound-finish u d (not (differs d m s)) h) bm bs em es)
       (λ e. sound-by-type (d .«transfer_type») u d m s i low refl h tr e bm bs em es))
 
   sound-tick : (d : Dma) (u : Reu) (m s : List ℕ) (i : ℕ) (low : Bool) → Sound u → SoundDma (u .attached) d → Bytes m → Bytes s
@@ -453,7 +449,7 @@ module _ (k n : ℕ) where
   unfolding tickOf
   sound-tick Idle u m s i low h tr bm bs em es = sound-ticked false u m s h bm bs em es
   sound-tick (Running d) u m s i low h tr bm bs em es =
-      either (SoundTick k n) (u .attached) _ _ (λ _. sound-running u d m s i low h tr bm bs em es)
+      by-test (SoundTick k n) (u .attached) _ _ (λ _. sound-running u d m s i low h tr bm bs em es)
       (λ _. sound-ticked false _ m s (with-dma u Idle h tt) bm bs em es)
 
   sound-cycle-by : (a : ReuBusAction) (u : Reu) (m s : List ℕ) (i : ℕ) (low : Bool) → Bytes m → length m ≡ k → SoundPair n u s → SoundTick k n (cycleBy a u m s i low)
@@ -478,7 +474,7 @@ sound-fresh e a =
     record {
       regs = record { len = refl; bytes = all-below (fresh e a .regs) (omega arith) };
       c64 = omega arith;
-      reu = omega arith;
+      exp = omega arith;
       len = omega arith;
       delay = omega arith;
       dma = tt;
@@ -486,7 +482,7 @@ sound-fresh e a =
 
 pub sound-trigger : (u : Reu) → Sound u → Sound (triggerFf00 u)
 unfolding triggerFf00
-sound-trigger u s = either Sound (u .«waiting_ff00» && bit (reg u 1) 7) (startDma u) u (λ _. sound-start u s) (λ _. s)
+sound-trigger u s = by-test Sound (u .«waiting_ff00» && bit (reg u 1) 7) (startDma u) u (λ _. sound-start u s) (λ _. s)
 
 pub sound-ready : (u : Reu) (high : Bool) → Sound u → Sound (cpuReadyAfterDma u high .reu)
 sound-ready u high s = flags-aside u s
@@ -498,7 +494,7 @@ sound-tick-dma u m s i low h bm bs = sound-tick (length m) (length s) (u .dma) u
 attach : (a : Bool) (d : Dma) → SoundDma a d → SoundDma true d
 attach a Idle h = tt
 attach a (Running d) h =
-    record { present = refl; c64 = h .c64; reu = h .reu; low = h .low; high = h .high; latch = h .latch; phase = h .phase; tail = h .tail }
+    record { present = refl; c64 = h .c64; exp = h .exp; low = h .low; high = h .high; latch = h .latch; phase = h .phase; tail = h .tail }
 
 zero-bytes : (n j : ℕ) → getD (replicate n 0) j 0 < 256
 zero-bytes zero j = omega arith
@@ -514,13 +510,13 @@ pub sound-enabled : (u : Reu) (s : List ℕ) (e : Bool) → Sound u → Bytes s
 unfolding setEnabled
 sound-enabled u s true h b =
     record {
-      sound = record { regs = h .regs; c64 = h .c64; reu = h .reu; len = h .len; delay = h .delay; dma = attach (u .attached) (u .dma) (h .dma) };
-      bytes = either Bytes (u .attached) s (zeros s) (λ _. b) (λ _. zeros-sound s .0);
-      size = either (λ (t : List ℕ). length t ≡ length s) (u .attached) s (zeros s) (λ _. refl) (λ _. zeros-sound s .1);
+      sound = record { regs = h .regs; c64 = h .c64; exp = h .exp; len = h .len; delay = h .delay; dma = attach (u .attached) (u .dma) (h .dma) };
+      bytes = by-test Bytes (u .attached) s (zeros s) (λ _. b) (λ _. zeros-sound s .0);
+      size = by-test (λ (t : List ℕ). length t ≡ length s) (u .attached) s (zeros s) (λ _. refl) (λ _. zeros-sound s .1);
     }
 sound-enabled u s false h b =
     record {
-      sound = record { regs = h .regs; c64 = h .c64; reu = h .reu; len = h .len; delay = omega arith; dma = tt };
+      sound = record { regs = h .regs; c64 = h .c64; exp = h .exp; len = h .len; delay = omega arith; dma = tt };
       bytes = b;
       size = refl;
     }

@@ -9,11 +9,12 @@ use lib.Dec.{eqb, ltb, leb}
 use borrow.Author.Tests.{lt-ltb, ltb-true, leb-true, eqb-true, eqb-false, eq-eqb, ne-eqb}
 use Rattle.controller.specs.declared.dma.Dma.{Dma}
 use Rattle.controller.specs.declared.dma.Dma.the-variants.{Idle, Running}
-use Rattle.controller.specs.Bytes.{bitOf}
+use Rattle.controller.specs.Bytes.{bit, bitOf, word, long}
 use Rattle.controller.specs.Dma.{typeOf}
 use Rattle.controller.specs.Refusals.{wellFormed}
+use Rattle.controller.proofs.Bits.{bit-div}
 use Rattle.controller.specs.Dma.{typeNumber}
-use Rattle.image.specs.Layout.{isBit, phaseNumber, phaseOf, at, num2, num3, gets, present, flags18, flags19, flags33, transferBytes, middleBytes, packImage, dmaAt, transferAt, reuAt}
+use Rattle.image.specs.Layout.{phaseNumber, phaseOf, at, gets, present, flags18, flags19, flags33, transferBytes, middleBytes, packImage, dmaAt, transferAt, reuAt}
 use Rattle.image.specs.Open.{allZero, idleOk, movingOk, bytesOk, imageOk, openImage}
 use lib.Seq.{length-take-le}
 use Rattle.image.specs.Valid.{Bytes, Typed, DmaTyped}
@@ -38,43 +39,38 @@ phase-number-back (suc (suc n)) h = absurd (omega arith)
 
 -- the bytes of a number of two bytes, and of three
 module _ (x y z : ℕ) (hx : x < 256) (hy : y < 256) (hz : z < 256) where
-  two-0 : num2 x y % 256 ≡ x
+  two-0 : word x y % 256 ≡ x
   two-0 = omega arith
 
-  two-1 : num2 x y / 256 % 256 ≡ y
+  two-1 : word x y / 256 % 256 ≡ y
   two-1 = omega arith
 
-  three-0 : num3 x y z % 256 ≡ x
+  three-0 : long x y z % 256 ≡ x
   three-0 = omega arith
 
-  three-1 : num3 x y z / 256 % 256 ≡ y
+  three-1 : long x y z / 256 % 256 ≡ y
   three-1 = omega arith
 
-  three-2 : num3 x y z / 65536 % 256 ≡ z
+  three-2 : long x y z / 65536 % 256 ≡ z
   three-2 = omega arith
 
 -- the digits of a byte, as its flags
-dig : (x k : ℕ) → bitOf (isBit x k) ≡ x / 2 ^ k % 2
-dig x k = digit-back (x / 2 ^ k % 2) (omega arith)
+dig : (x k : ℕ) → bitOf (bit x k) ≡ x / 2 ^ k % 2
+dig x k = ap bitOf (bit-div x k) ∙ digit-back (x / 2 ^ k % 2) (omega arith)
 
-byte-back : (x : ℕ) → x < 256 → bitOf (isBit x 0) + 2 * bitOf (isBit x 1) + 4 * bitOf (isBit x 2) + 8 * bitOf (isBit x 3) + 16 * bitOf (isBit x 4) + 32 * bitOf (isBit x 5) + 64 * bitOf (isBit x 6) + 128 * bitOf (isBit x 7) ≡ x
+byte-back : (x : ℕ) → x < 256 → bitOf (bit x 0) + 2 * bitOf (bit x 1) + 4 * bitOf (bit x 2) + 8 * bitOf (bit x 3) + 16 * bitOf (bit x 4) + 32 * bitOf (bit x 5) + 64 * bitOf (bit x 6) + 128 * bitOf (bit x 7) ≡ x
 byte-back x h = (λ i. dig x 0 i + 2 * dig x 1 i + 4 * dig x 2 i + 8 * dig x 3 i + 16 * dig x 4 i + 32 * dig x 5 i + 64 * dig x 6 i + 128 * dig x 7 i) ∙ byte-of-bits x h
 
-six-back : (x : ℕ) → x < 64 → bitOf (isBit x 0) + 2 * bitOf (isBit x 1) + 4 * bitOf (isBit x 2) + 8 * bitOf (isBit x 3) + 16 * bitOf (isBit x 4) + 32 * bitOf (isBit x 5) ≡ x
+six-back : (x : ℕ) → x < 64 → bitOf (bit x 0) + 2 * bitOf (bit x 1) + 4 * bitOf (bit x 2) + 8 * bitOf (bit x 3) + 16 * bitOf (bit x 4) + 32 * bitOf (bit x 5) ≡ x
 six-back x h = (λ i. dig x 0 i + 2 * dig x 1 i + 4 * dig x 2 i + 8 * dig x 3 i + 16 * dig x 4 i + 32 * dig x 5 i) ∙ six-of-bits x h
 
-two-back : (x : ℕ) → x < 4 → bitOf (isBit x 0) + 2 * bitOf (isBit x 1) ≡ x
+two-back : (x : ℕ) → x < 4 → bitOf (bit x 0) + 2 * bitOf (bit x 1) ≡ x
 two-back x h = (λ i. dig x 0 i + 2 * dig x 1 i) ∙ omega arith
 
 -- a list that is all zeros
-zeros-then : (b : Bool) (l : List ℕ) → allZero b l ≡ true → b ≡ true
-zeros-then b [] h = h
-zeros-then b (a ∷ l) h = and-left b (eqb a 0) (zeros-then (b && eqb a 0) l h)
-
-zeros-are : (b : Bool) (l : List ℕ) → allZero b l ≡ true → l ≡ replicate (length l) 0
-zeros-are b [] h = refl
-zeros-are b (a ∷ l) h =
-    ap₂ _∷_ (eqb-true a 0 (and-right b (eqb a 0) (zeros-then (b && eqb a 0) l h))) (zeros-are (b && eqb a 0) l h)
+zeros-are : (l : List ℕ) → allZero l ≡ true → l ≡ replicate (length l) 0
+zeros-are [] h = refl
+zeros-are (a ∷ l) h = ap₂ _∷_ (eqb-true a 0 (and-left (eqb a 0) (allZero l) h)) (zeros-are l (and-right (eqb a 0) (allZero l) h))
 
 take-below : (k : ℕ) (l : List ℕ) → ((j : ℕ) → getD l j 0 < 256) → (j : ℕ) → getD (take k l) j 0 < 256
 take-below zero l h j = omega arith
@@ -100,7 +96,7 @@ module _ (s : List ℕ) (whole : Bytes s) (long : length s ≡ 34) (ok : imageOk
     idle-tail =
         let twelve : length (drop 22 s) ≡ 12 = simp length-drop (omega arith) in
         ap (λ (t : Bool). transferBytes (cond t Idle (Running (transferAt s)))) (eq-eqb (at s 21) 0 none)
-        ∙ sym (zeros-are true (drop 22 s) (and-right (ltb (at s 19) 4) (idleOk s) idle-good) ∙ ap (λ (n : ℕ). replicate n 0) twelve)
+        ∙ sym (zeros-are (drop 22 s) (and-right (ltb (at s 19) 4) (idleOk s) idle-good) ∙ ap (λ (n : ℕ). replicate n 0) twelve)
 
     idle-present : present (dmaAt s) ≡ at s 21
     idle-present = ap (λ (t : Bool). present (cond t Idle (Running (transferAt s)))) (eq-eqb (at s 21) 0 none) ∙ sym none

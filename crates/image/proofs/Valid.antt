@@ -14,19 +14,19 @@ use Rattle.controller.specs.declared.dma.Dma.the-variants.{Idle, Running}
 use Rattle.controller.specs.Dma.{isType, isWritePhase}
 use Rattle.controller.specs.Refusals.{wellTransfer, wellDma, wellFormed}
 use Rattle.controller.proofs.WellFormed.{fst, snd, well-shadow, well-delay}
 use Rattle.image.specs.Layout.{packImage, reuAt}
 use Rattle.image.specs.Open.{openImage}
 use Rattle.image.proofs.Opening.{opened-long, opened-ok}
 use Rattle.image.specs.Valid.{Bytes, Typed, DmaTyped}
 use Rattle.image.proofs.Packed.{pack-bytes}
 use Rattle.image.proofs.Unpacked.{pack-open, opened-typed, opened-well}
-use Rattle.claims.proofs.Sound.{SoundTransfer, SoundDma, Sound}
+use Rattle.image.proofs.Sound.{SoundTransfer, SoundDma, Sound}
 
 transfer-well : (a : Bool) (d : DmaState) → SoundTransfer a d → a && wellTransfer d ≡ true
 transfer-well a d h =
     let low : leb 1 (d .remaining) ≡ true = le-leb 1 (d .remaining) (h .low) in
     let high : leb (d .remaining) 65536 ≡ true = le-leb (d .remaining) 65536 (h .high) in
-    let addr : ltb (d .«reu_addr» .0) 16777216 ≡ true = lt-ltb (d .«reu_addr» .0) 16777216 (h .reu) in
+    let addr : ltb (d .«reu_addr» .0) 16777216 ≡ true = lt-ltb (d .«reu_addr» .0) 16777216 (h .exp) in
     λ i. h .present i && ((low i && high i) && (addr i && (h .phase i && h .tail i)))
 
 dma-well : (a : Bool) (x : Dma) → SoundDma a x → wellDma a x ≡ true
@@ -37,7 +37,7 @@ pub sound-well : (u : Reu) → Sound u → wellFormed u ≡ true
 unfolding wellFormed
 sound-well u s =
     let delay : leb (u .«swap_read_delay») 2 ≡ true = le-leb (u .«swap_read_delay») 2 (omega (arith, s .delay)) in
-    let shadow : ltb (u .«shadow_reu_addr») 16777216 ≡ true = lt-ltb (u .«shadow_reu_addr») 16777216 (s .reu) in
+    let shadow : ltb (u .«shadow_reu_addr») 16777216 ≡ true = lt-ltb (u .«shadow_reu_addr») 16777216 (s .exp) in
     λ i. delay i && (shadow i && dma-well (u .attached) (u .dma) (s .dma) i)
 
 dma-typed : (a : Bool) (x : Dma) → SoundDma a x → DmaTyped x
@@ -80,7 +80,7 @@ module _ (a : Bool) (d : DmaState) (h : DmaTyped (Running d)) (e : a && wellTran
       record {
         present = fst a (wellTransfer d) e;
         c64 = h .0;
-        reu = ltb-true (d .«reu_addr» .0) 16777216 (fst (ltb (d .«reu_addr» .0) 16777216) _ after-bounds);
+        exp = ltb-true (d .«reu_addr» .0) 16777216 (fst (ltb (d .«reu_addr» .0) 16777216) _ after-bounds);
         low = leb-true 1 (d .remaining) (fst (leb 1 (d .remaining)) (leb (d .remaining) 65536) bounds);
         high = leb-true (d .remaining) 65536 (snd (leb 1 (d .remaining)) (leb (d .remaining) 65536) bounds);
         latch = h .1;
@@ -98,7 +98,7 @@ sound-of u t e =
     record {
       regs = record { len = t .regs-long; bytes = t .regs-bytes .below };
       c64 = t .c64-fits;
-      reu = well-shadow u e;
+      exp = well-shadow u e;
       len = t .len-fits;
       delay = omega (arith, well-delay u e);
       dma =

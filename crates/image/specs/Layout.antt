@@ -1,5 +1,5 @@
 -- The image record: 34 bytes, low byte first.
-use Rattle.controller.specs.Prelude.{ℕ, _+_, _*_, _/_, _%_, _^_, Bool, cond, List, [], _∷_, eqb, getD, length}
+use Rattle.controller.specs.Prelude.{ℕ, _+_, _*_, cond, List, [], _∷_, eqb, getD}
 use Rattle.controller.specs.declared.dma.SwapPhase.{SwapPhase}
 use Rattle.controller.specs.declared.dma.SwapPhase.the-variants.{ReadC64, WriteC64}
 use Rattle.controller.specs.declared.dma.DmaState.{DmaState}
@@ -10,7 +10,7 @@ use Prim.Native.Nat.{zero, suc}
 use mathlib.Core.List.{_++_}
 use lib.ListN.{take}
 use Rattle.controller.specs.Constants.{registerCount}
-use Rattle.controller.specs.Bytes.{bitOf, lowByte, highByte, bankByte}
+use Rattle.controller.specs.Bytes.{bit, bitOf, lowByte, highByte, bankByte, word, long}
 use Rattle.controller.specs.Dma.{typeNumber, typeOf}
 
 abbrev pub imageSize : ℕ
@@ -68,23 +68,10 @@ transferBytes (Running d) =
 unfoldable pub packImage : Reu → List ℕ
 packImage r = r .regs ++ (middleBytes r ++ transferBytes (r .dma))
 
--- a slice that an image is laid over: of another length it stays as it is
-unfoldable pub storeImage : Reu → List ℕ → List ℕ
-storeImage r out = cond (eqb (length out) imageSize) (packImage r) out
-
--- ---- opening: byte i of an image, its bit k, and the numbers of two and of three bytes
+-- ---- opening: byte i of an image
 
 abbrev pub at : List ℕ → ℕ → ℕ
 at s i = getD s i 0
-
-abbrev pub isBit : ℕ → ℕ → Bool
-isBit x k = eqb (x / 2 ^ k % 2) 1
-
-abbrev pub num2 : ℕ → ℕ → ℕ
-num2 lo hi = lo + 256 * hi
-
-abbrev pub num3 : ℕ → ℕ → ℕ → ℕ
-num3 lo mid hi = lo + 256 * mid + 65536 * hi
 
 abbrev pub phaseOf : ℕ → SwapPhase
 phaseOf n = cond (eqb n 0) ReadC64 WriteC64
@@ -93,16 +80,16 @@ abbrev pub transferAt : List ℕ → DmaState
 transferAt s = record {
   «transfer_type» = typeOf (at s 22);
   «swap_phase» = phaseOf (at s 23);
-  «c64_addr» = record { 0 = num2 (at s 24) (at s 25) };
-  «reu_addr» = record { 0 = num3 (at s 26) (at s 27) (at s 28) };
-  remaining = num3 (at s 29) (at s 30) (at s 31);
-  «fix_c64» = isBit (at s 33) 0;
-  «fix_reu» = isBit (at s 33) 1;
-  autoload = isBit (at s 33) 2;
+  «c64_addr» = record { 0 = word (at s 24) (at s 25) };
+  «reu_addr» = record { 0 = long (at s 26) (at s 27) (at s 28) };
+  remaining = long (at s 29) (at s 30) (at s 31);
+  «fix_c64» = bit (at s 33) 0;
+  «fix_reu» = bit (at s 33) 1;
+  autoload = bit (at s 33) 2;
   latch = at s 32;
-  «first_byte» = isBit (at s 33) 3;
-  «read_clock_odd» = isBit (at s 33) 4;
-  «verify_tail» = isBit (at s 33) 5;
+  «first_byte» = bit (at s 33) 3;
+  «read_clock_odd» = bit (at s 33) 4;
+  «verify_tail» = bit (at s 33) 5;
 }
 
 abbrev pub dmaAt : List ℕ → Dma
@@ -111,19 +98,19 @@ dmaAt s = cond (eqb (at s 21) 0) Idle (Running (transferAt s))
 unfoldable pub reuAt : List ℕ → Reu
 reuAt s = record {
   regs = take registerCount s;
-  «shadow_c64_addr» = num2 (at s 11) (at s 12);
-  «shadow_reu_addr» = num3 (at s 13) (at s 14) (at s 15);
-  «shadow_len» = num2 (at s 16) (at s 17);
-  enabled = isBit (at s 18) 0;
-  «irq_pending» = isBit (at s 18) 1;
-  attached = isBit (at s 18) 2;
-  «waiting_ff00» = isBit (at s 18) 3;
-  «ba_was_high» = isBit (at s 18) 4;
-  «recall_repeat» = isBit (at s 18) 5;
-  «terminal_swap_write» = isBit (at s 18) 6;
-  «late_ba_fall» = isBit (at s 18) 7;
-  «swap_refresh» = isBit (at s 19) 0;
-  «swap_release_pending» = isBit (at s 19) 1;
+  «shadow_c64_addr» = word (at s 11) (at s 12);
+  «shadow_reu_addr» = long (at s 13) (at s 14) (at s 15);
+  «shadow_len» = word (at s 16) (at s 17);
+  enabled = bit (at s 18) 0;
+  «irq_pending» = bit (at s 18) 1;
+  attached = bit (at s 18) 2;
+  «waiting_ff00» = bit (at s 18) 3;
+  «ba_was_high» = bit (at s 18) 4;
+  «recall_repeat» = bit (at s 18) 5;
+  «terminal_swap_write» = bit (at s 18) 6;
+  «late_ba_fall» = bit (at s 18) 7;
+  «swap_refresh» = bit (at s 19) 0;
+  «swap_release_pending» = bit (at s 19) 1;
   «swap_read_delay» = at s 20;
   dma = dmaAt s;
 }

@@ -1,19 +1,20 @@
--- When an image is refused, and what opening one gives.
+-- When an image is refused, and what opening and storing one give.
 use Rattle.controller.specs.Prelude.{ℕ, Bool, true, _&&_, cond, List, [], _∷_, eqb, leb, ltb, length}
 use lib.ListN.{drop}
 use Rattle.controller.specs.Enable.{newReu}
-use Rattle.controller.specs.Refusals.{wellFormed}
+use Rattle.controller.specs.declared.reu.Reu.{Reu}
+use Rattle.controller.specs.Refusals.{wellFormed, checked}
 use Rattle.image.specs.declared.Opened.{Opened}
-use Rattle.image.specs.Layout.{imageSize, at, reuAt}
+use Rattle.image.specs.Layout.{imageSize, at, packImage, reuAt}
 
--- b, and every element of s is 0
-abbrev pub allZero : Bool → List ℕ → Bool
-allZero b [] = b
-allZero b (a ∷ s) = allZero (b && eqb a 0) s
+-- every element of s is 0
+abbrev pub allZero : List ℕ → Bool
+allZero [] = true
+allZero (a ∷ s) = eqb a 0 && allZero s
 
 -- "a transfer field not 0 without a transfer": bytes 22 to 33
 unfoldable pub idleOk : List ℕ → Bool
-idleOk s = allZero true (drop 22 s)
+idleOk s = allZero (drop 22 s)
 
 -- present 1, type 0-3, phase 0-1, and of byte 33 bits 0 to 5 alone
 abbrev pub movingOk : List ℕ → Bool
@@ -33,3 +34,11 @@ openImage s =
     cond (eqb (length s) imageSize)
     (record { refusal = cond (imageOk s) 0 2; reu = reuAt s })
     (record { refusal = 1; reu = newReu })
+
+-- storing refuses what opening would: 1 a slice of another length, 2 a controller that is out of its ranges; then the slice stays
+abbrev pub storeRefusal : Reu → ℕ → ℕ
+storeRefusal u size = cond (eqb size imageSize) (cond (wellFormed u) 0 2) 1
+
+unfoldable pub storeImage : Reu → List ℕ → (ℕ × List ℕ)
+storeImage u s =
+    checked (storeRefusal u (length s)) (λ n. (n, s)) (0, packImage u)

@@ -35,12 +35,11 @@ use layout::TRANSFER_FLAGS;
 use layout::TYPE;
 ghost use mathlib.Core.Path.{_≡_};
 ghost use Prim.Native.Nat.{_+_, _*_, _≤_};
-ghost use mathlib.Core.Bool.{true};
 ghost use mathlib.Core.List.{_++_};
 ghost use lib.ListN.{length};
-ghost use Rattle.controller.specs.Bytes.{bitOf};
-ghost use Rattle.image.specs.Layout.{dmaAt, flags18, gets, imageSize, middleBytes, num2, num3, packImage, phaseNumber, phaseOf, present, reuAt, storeImage, transferAt, transferBytes};
-ghost use Rattle.image.specs.Open.{allZero, bytesOk, movingOk, openImage};
+ghost use Rattle.controller.specs.Bytes.{bitOf, long, word};
+ghost use Rattle.image.specs.Layout.{dmaAt, flags18, gets, imageSize, middleBytes, packImage, phaseNumber, phaseOf, present, reuAt, transferAt, transferBytes};
+ghost use Rattle.image.specs.Open.{allZero, bytesOk, movingOk, openImage, storeImage};
 
 mod layout;
 
@@ -209,7 +208,8 @@ fn joined(regs: [u8; 11], mid: [u8; 11], tail: [u8; TRANSFER_BYTES]) -> [u8; IMA
     ]
 }
 
-pub fn pack(reu: Reu) -> [u8; IMAGE_BYTES]
+// The image of any controller, in range or not: a byte of a number that is too large is lost, so it is tested before.
+fn pack(reu: Reu) -> [u8; IMAGE_BYTES]
     ensures { λ r. ⌜ r ≡ packImage reu ⌝ }
 {
     let regs = reu.regs;
@@ -220,13 +220,13 @@ pub fn pack(reu: Reu) -> [u8; IMAGE_BYTES]
 }
 
 fn pair(lo: u8, hi: u8) -> u16
-    ensures { λ r. ⌜ r ≡ num2 lo hi ⌝ }
+    ensures { λ r. ⌜ r ≡ word lo hi ⌝ }
 {
     (lo as u16) + 256 * (hi as u16)
 }
 
 fn triple(lo: u8, mid: u8, hi: u8) -> u32
-    ensures { λ r. ⌜ r ≡ num3 lo mid hi ⌝ }
+    ensures { λ r. ⌜ r ≡ long lo mid hi ⌝ }
 {
     (lo as u32) + 256 * (mid as u32) + 65536 * (hi as u32)
 }
@@ -251,13 +251,13 @@ fn transfer_at(image: &[u8]) -> DmaState
         c64_addr: c64,
         reu_addr: reu,
         remaining: left,
-        fix_c64: flags / 1 % 2 == 1,
-        fix_reu: flags / 2 % 2 == 1,
-        autoload: flags / 4 % 2 == 1,
+        fix_c64: flags & 0x01 != 0,
+        fix_reu: flags & 0x02 != 0,
+        autoload: flags & 0x04 != 0,
         latch: image[LATCH],
-        first_byte: flags / 8 % 2 == 1,
-        read_clock_odd: flags / 16 % 2 == 1,
-        verify_tail: flags / 32 % 2 == 1,
+        first_byte: flags & 0x08 != 0,
+        read_clock_odd: flags & 0x10 != 0,
+        verify_tail: flags & 0x20 != 0,
     }
 }
 
@@ -312,16 +312,16 @@ fn controller_at(image: &[u8]) -> Reu
         shadow_c64_addr: c64,
         shadow_reu_addr: reu,
         shadow_len: len,
-        enabled: flags / 1 % 2 == 1,
-        irq_pending: flags / 2 % 2 == 1,
-        attached: flags / 4 % 2 == 1,
-        waiting_ff00: flags / 8 % 2 == 1,
-        ba_was_high: flags / 16 % 2 == 1,
-        recall_repeat: flags / 32 % 2 == 1,
-        terminal_swap_write: flags / 64 % 2 == 1,
-        late_ba_fall: flags / 128 % 2 == 1,
-        swap_refresh: more / 1 % 2 == 1,
-        swap_release_pending: more / 2 % 2 == 1,
+        enabled: flags & 0x01 != 0,
+        irq_pending: flags & 0x02 != 0,
+        attached: flags & 0x04 != 0,
+        waiting_ff00: flags & 0x08 != 0,
+        ba_was_high: flags & 0x10 != 0,
+        recall_repeat: flags & 0x20 != 0,
+        terminal_swap_write: flags & 0x40 != 0,
+        late_ba_fall: flags & 0x80 != 0,
+        swap_refresh: more & 0x01 != 0,
+        swap_release_pending: more & 0x02 != 0,
         swap_read_delay: delay,
         dma: dma,
     }
@@ -329,7 +329,7 @@ fn controller_at(image: &[u8]) -> Reu
 
 fn idle_ok(image: &[u8]) -> bool
     requires { ⌜ length (now image) ≡ imageSize ⌝ }
-    ensures { λ r. ⌜ r ≡ allZero true (gets 22 12 (now (image .entry))) ⌝ }
+    ensures { λ r. ⌜ r ≡ allZero (gets 22 12 (now (image .entry))) ⌝ }
 {
     (image[TYPE] == 0)
         & (image[PHASE] == 0)
@@ -397,13 +397,18 @@ pub fn open(image: &[u8]) -> Opened
     }
 }
 
-// Lays the image of a controller over a slice of 34 bytes; any other slice stays as it is.
-pub fn store(out: &mut [u8], reu: Reu)
-    ensures { λ _. ⌜ now (out .exit) ≡ storeImage reu (now (out .entry)) ⌝ }
+// Lays the image of a controller over a slice of 34 bytes. Refuses a slice of another length, and a controller that opening
+// would refuse: then the slice stays as it is.
+pub fn store(out: &mut [u8], reu: Reu) -> u8
+    ensures { λ r. ⌜ (r, now (out .exit)) ≡ storeImage reu (now (out .entry)) ⌝ }
 {
     if out.len() != IMAGE_BYTES {
-        return;
+        return REFUSED_LENGTH;
     }
-    let packed = pack(reu);
-    bytes::copy(&packed, out);
+    if reu.well_formed() {
+        let packed = pack(reu);
+        bytes::copy(&packed, out);
+        return ACCEPTED;
+    }
+    REFUSED_FIELD
 }
