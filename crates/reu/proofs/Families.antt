@@ -1,8 +1,10 @@
 -- What a call of each family is, by what opening the image gave: o.
-use mathlib.Core.Path.{_≡_, sym, ap, _∙_}
+use mathlib.Core.Path.{_≡_, sym, ap, _∙_, subst}
 use mathlib.Core.List.{List}
 use Prim.Native.Nat.{ℕ}
-use lib.ListN.{length}
+use lib.ListN.{length, getD}
+use mir.Syntax.{w8}
+use mir.Val.{Fits}
 use Rattle.controller.specs.declared.reu.Answer.{Answer}
 use Rattle.controller.specs.declared.reu.Reu.{Reu}
 use Rattle.controller.specs.Refusals.{checked}
@@ -10,8 +12,15 @@ use Rattle.controller.proofs.Checked.{done, not-done}
 use Rattle.image.specs.declared.Opened.{Opened}
 use Rattle.image.specs.Layout.{imageSize}
 use Rattle.image.specs.Open.{openImage}
-use Rattle.image.proofs.Opening.{opened-long}
+use Rattle.image.specs.Valid.{Bytes}
+use Rattle.image.proofs.Opening.{opened-long, opened-is}
+use Rattle.image.proofs.Sound.{Sound}
+use Rattle.image.proofs.Valid.{open-sound}
 use Rattle.reu.specs.Exports.{refusal, code, changed, changedStorage, changedBoth, look, change, changeStorage, changeBoth}
+
+-- the bytes of a slice are bytes
+pub bytes-of : (s : List ℕ) → ((j : ℕ) → Fits w8 (getD s j 0)) → Bytes s
+bytes-of s given = record { below = λ j. given j .fits }
 
 module _ (i : List ℕ) (o : Opened) (e : o ≡ openImage i) where
   number : o .refusal ≡ openImage i .refusal
@@ -40,6 +49,10 @@ module _ (i : List ℕ) (o : Opened) (e : o ≡ openImage i) where
   module _ (good : o .refusal ≡ 0) where
     pub long : length i ≡ imageSize
     long = opened-long i (sym number ∙ good)
+
+    pub sound : Bytes i → Sound (o .reu)
+    sound b =
+        subst (λ (y : Opened). Sound (y .reu)) (sym (e ∙ opened-is i (sym number ∙ good))) (open-sound i b (sym number ∙ good))
 
     -- a is what the call on the controller answered, with what it left; x what is answered and left
     pub look-done : (f : Reu → Answer) (a : Answer) (x : ℕ) → a ≡ f (o .reu) → x ≡ code a → x ≡ look f i

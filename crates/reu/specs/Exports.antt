@@ -1,5 +1,5 @@
 -- What each exported call answers, and what it leaves in what it is lent: i the image, m the bus, s the storage.
-use Rattle.controller.specs.Prelude.{ℕ, _*_, Bool, not, cond, List, eqb, length}
+use Rattle.controller.specs.Prelude.{ℕ, _+_, _*_, Bool, not, cond, List, eqb, length}
 use Rattle.controller.specs.declared.reu.Answer.{Answer}
 use Rattle.controller.specs.declared.reu.Reu.{Reu}
 use Rattle.controller.specs.Enable.{newReu}
@@ -8,7 +8,7 @@ use Rattle.controller.specs.Calls.{resetCall, setEnabledCall, storagePresentCal
 use Rattle.image.specs.Layout.{imageSize, packImage}
 use Rattle.image.specs.Open.{openImage}
 
--- "Each returns 16,777,216 times the refusal number plus a value"; a refusal has value 0
+-- "Each returns 16,777,216 times the refusal number plus a value"
 abbrev pub refusalUnit : ℕ
 refusalUnit = 16777216
 
@@ -16,7 +16,7 @@ abbrev pub refusal : ℕ → ℕ
 refusal n = refusalUnit * n
 
 unfoldable pub code : Answer → ℕ
-code a = cond (eqb (a .refusal) 0) (a .value) (refusal (a .refusal))
+code a = refusal (a .refusal) + a .value
 
 -- "Input flags: 0 is false"
 abbrev pub flag : ℕ → Bool

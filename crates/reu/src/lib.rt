@@ -1,9 +1,8 @@
 // The exported calls: a controller by its image, and the bus and the storage that the host lends.
 // Each answers a value, or 16,777,216 times a refusal number, and then nothing that is lent has changed.
 ghost use mathlib.Core.Path.{_≡_};
-ghost use lib.ListN.{length};
-ghost use Rattle.image.specs.Layout.{imageSize};
 ghost use Rattle.reu.specs.Exports.{changed, code, refusal, reuBusAction, reuC64Access, reuCapacityBytes, reuCpuReady, reuCycle, reuDebugRegister, reuDmaActive, reuNew, reuRead, reuReset, reuSetEnabled, reuStoragePresent, reuTickDma, reuTriggerFf00, reuWrite};
+ghost use Rattle.reu.specs.Inner.{Carried, Kept};
 use controller::Answer;
 use controller::Reu;
 
@@ -21,36 +20,31 @@ fn refused(number: u8) -> u32
 
 // The number that a call answers.
 fn code_of(answer: Answer) -> u32
+    requires { ⌜ Carried answer ⌝ }
     ensures { λ r. ⌜ r ≡ code answer ⌝ }
 {
-    if answer.refusal != ACCEPTED {
-        return refused(answer.refusal);
-    }
-    answer.value
+    refused(answer.refusal) + answer.value
 }
 
-// The end of a call that changes the controller: the image is laid down, unless the call was refused.
+// The end of a call that changes the controller: the image is laid down, unless the call was refused. What a call leaves is in range, so
+// storing it is never refused.
 fn finish(image: &mut [u8], answer: Answer) -> u32
-    requires { ⌜ length (now image) ≡ imageSize ⌝ }
+    requires { ⌜ Kept answer (now image) ⌝ }
     ensures { λ r. ⌜ (r, now (image .exit)) ≡ changed answer (now (image .entry)) ⌝ }
 {
     if answer.refusal != ACCEPTED {
-        return refused(answer.refusal);
+        return code_of(answer);
     }
     let reu = answer.reu;
     image::store(image, reu);
-    answer.value
+    code_of(answer)
 }
 
 #[no_mangle]
 pub extern "C" fn reu_new(image: &mut [u8]) -> u32
     ensures { λ r. ⌜ (r, now (image .exit)) ≡ reuNew (now (image .entry)) ⌝ }
 {
-    if image.len() != image::IMAGE_BYTES {
-        return REFUSAL_UNIT;
-    }
-    image::store(image, Reu::new());
-    0
+    refused(image::store(image, Reu::new()))
 }
 
 #[no_mangle]

@@ -1,25 +1,37 @@
+use mathlib.Core.Path.{_∙_, ap}
+use mathlib.Core.List.{List}
+use Prim.Native.Nat.{ℕ}
 use borrow.Author.Tests.{eq-eqb, ne-eqb}
-use Rattle.image.proofs.Opening.{store-long}
+use Rattle.image.proofs.Opening.{store-good}
 use Rattle.reu.specs.Exports.{code, imageAfter}
 use borrow.Author.Needs.{needs}
 use Rattle.reu.proofs.finish.Statement.{statement}
 use Rattle.reu.proofs.finish.Tie as tie
 
+code-of-requires : tie.Need-code-of-requires
+code-of-requires c κs = c .before .before .before .pre .whole .carried
+
 returns : tie.Need-returns
-unfolding code imageAfter
+unfolding imageAfter
 returns c =
     let its-if1 = c .before .if1 in
-    rw (c .refused .ensures, ne-eqb _ _ (its-if1 .taken))
+    rw (c .code-of .ensures, ne-eqb _ _ (its-if1 .taken))
+
+code-of-requires-2 : tie.Need-code-of-requires-2
+code-of-requires-2 c κs = c .before .before .before .before .before .before .before .before .pre .whole .carried
 
 returns-2 : tie.Need-returns-2
-unfolding code imageAfter
+unfolding imageAfter
 returns-2 c =
-    let its-store = c .before .before .store in
-    let its-if1 = c .before .before .before .before .before .if1 in
-    let its-pre = c .before .before .before .before .before .before .before .before .pre in
-    rw (eq-eqb _ _ (its-if1 .left), its-store .ensures, store-long _ _ (its-pre))
+    let its-store = c .before .before .before .store in
+    let at-if1 = c .before .before .before .before .before .before in
+    let at-start = at-if1 .before .before .before in
+    rw (c .code-of2 .ensures, eq-eqb _ _ (at-if1 .if1 .left))
+    (ap (λ (s : List ℕ). (code (at-start .args .answer), s))
+    (ap (λ (x : ℕ × List ℕ). x .1)
+    (its-store .ensures ∙ store-good (at-start .args .answer .reu) (at-start .args .image .now) (at-start .pre .long) (at-start .pre .whole .well))))
 
 pub finish-spec : {M : Type 1} → statement M
 finish-spec =
     tie.close
-    (tie.spec (λ c κs. search needs) returns (λ c κs. search needs) (λ c. search needs) returns-2)
+    (tie.spec code-of-requires returns (λ c κs. search needs) code-of-requires-2 (λ c. search needs) returns-2)

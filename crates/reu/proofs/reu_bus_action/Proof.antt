@@ -1,6 +1,12 @@
+use mathlib.Core.Path.{sym, ap, subst}
+use mathlib.Core.List.{List}
+use Prim.Native.Nat.{ℕ}
 use Rattle.controller.specs.Calls.{busActionCall}
 use Rattle.reu.specs.Exports.{flag}
-use Rattle.reu.proofs.Families.{storage-refused, storage-done, long}
+use Rattle.reu.proofs.Families.{storage-refused, storage-done, long, sound, bytes-of}
+use Rattle.reu.proofs.Wholes.{bus-action-whole}
+use Rattle.reu.specs.Inner.{Whole}
+use Rattle.controller.specs.declared.reu.Answer.{Answer}
 use borrow.Author.Needs.{needs}
 use Rattle.reu.proofs.reu_bus_action.Statement.{statement}
 use Rattle.reu.proofs.reu_bus_action.Tie as tie
@@ -16,10 +22,19 @@ returns c =
 
 finish-requires : tie.Need-finish-requires
 finish-requires c κs =
+    let its-bus-action = c .before .before .before .bus-action in
     let its-if1 = c .before .before .before .before .before .before .if1 in
     let its-open = c .before .before .before .before .before .before .before .«open» in
     let its-args = c .before .before .before .before .before .before .before .before .before .before .before .args in
-    long (its-args .image .now) (its-open .result) (its-open .ensures) (its-if1 .left)
+    let image-bytes = bytes-of (its-args .image .now) (c .before .before .before .before .before .before .before .before .before .before .slice-known .given) in
+    let storage-bytes = bytes-of (its-args .storage .now) (c .before .before .before .before .before .before .before .before .before .slice-known2 .given) in
+    let its-sound = sound (its-args .image .now) (its-open .result) (its-open .ensures) (its-if1 .left) image-bytes in
+    record {
+      whole =
+          subst Whole (sym (ap (λ (x : Answer × List ℕ). x .0) (its-bus-action .ensures)))
+          (bus-action-whole (its-open .result .reu) its-sound (its-args .storage .now) storage-bytes (flag (its-args .ba-high)) (flag (its-args .ba-high-phi1)) (its-args .cycle));
+      long = long (its-args .image .now) (its-open .result) (its-open .ensures) (its-if1 .left);
+    }
 
 returns-2 : tie.Need-returns-2
 returns-2 c =

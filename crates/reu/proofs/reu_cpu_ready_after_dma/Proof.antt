@@ -1,6 +1,9 @@
+use mathlib.Core.Path.{sym, subst}
 use Rattle.controller.specs.Calls.{cpuReadyCall}
 use Rattle.reu.specs.Exports.{flag}
-use Rattle.reu.proofs.Families.{change-refused, change-done, long}
+use Rattle.reu.proofs.Families.{change-refused, change-done, long, sound, bytes-of}
+use Rattle.reu.proofs.Wholes.{cpu-ready-whole}
+use Rattle.reu.specs.Inner.{Whole}
 use borrow.Author.Needs.{needs}
 use Rattle.reu.proofs.reu_cpu_ready_after_dma.Statement.{statement}
 use Rattle.reu.proofs.reu_cpu_ready_after_dma.Tie as tie
@@ -15,10 +18,16 @@ returns c =
 
 finish-requires : tie.Need-finish-requires
 finish-requires c κs =
+    let its-cpu-ready-after-dma = c .before .cpu-ready-after-dma in
     let its-if1 = c .before .before .before .if1 in
     let its-open = c .before .before .before .before .«open» in
     let its-args = c .before .before .before .before .before .before .before .args in
-    long (its-args .image .now) (its-open .result) (its-open .ensures) (its-if1 .left)
+    let its-bytes = bytes-of (its-args .image .now) (c .before .before .before .before .before .before .slice-known .given) in
+    let its-sound = sound (its-args .image .now) (its-open .result) (its-open .ensures) (its-if1 .left) its-bytes in
+    record {
+      whole = subst Whole (sym (its-cpu-ready-after-dma .ensures)) (cpu-ready-whole (its-open .result .reu) its-sound (flag (its-args .ba-high)));
+      long = long (its-args .image .now) (its-open .result) (its-open .ensures) (its-if1 .left);
+    }
 
 returns-2 : tie.Need-returns-2
 returns-2 c =

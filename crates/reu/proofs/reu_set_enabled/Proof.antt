@@ -1,6 +1,12 @@
+use mathlib.Core.Path.{sym, ap, subst}
+use mathlib.Core.List.{List}
+use Prim.Native.Nat.{ℕ}
 use Rattle.controller.specs.Calls.{setEnabledCall}
 use Rattle.reu.specs.Exports.{flag}
-use Rattle.reu.proofs.Families.{storage-refused, storage-done, long}
+use Rattle.reu.proofs.Families.{storage-refused, storage-done, long, sound, bytes-of}
+use Rattle.reu.proofs.Wholes.{set-enabled-whole}
+use Rattle.reu.specs.Inner.{Whole}
+use Rattle.controller.specs.declared.reu.Answer.{Answer}
 use borrow.Author.Needs.{needs}
 use Rattle.reu.proofs.reu_set_enabled.Statement.{statement}
 use Rattle.reu.proofs.reu_set_enabled.Tie as tie
@@ -15,10 +21,19 @@ returns c =
 
 finish-requires : tie.Need-finish-requires
 finish-requires c κs =
+    let its-set-enabled = c .before .before .before .set-enabled in
     let its-if1 = c .before .before .before .before .before .before .if1 in
     let its-open = c .before .before .before .before .before .before .before .«open» in
     let its-args = c .before .before .before .before .before .before .before .before .before .before .before .args in
-    long (its-args .image .now) (its-open .result) (its-open .ensures) (its-if1 .left)
+    let image-bytes = bytes-of (its-args .image .now) (c .before .before .before .before .before .before .before .before .before .before .slice-known .given) in
+    let storage-bytes = bytes-of (its-args .storage .now) (c .before .before .before .before .before .before .before .before .before .slice-known2 .given) in
+    let its-sound = sound (its-args .image .now) (its-open .result) (its-open .ensures) (its-if1 .left) image-bytes in
+    record {
+      whole =
+          subst Whole (sym (ap (λ (x : Answer × List ℕ). x .0) (its-set-enabled .ensures)))
+          (set-enabled-whole (its-open .result .reu) its-sound (its-args .storage .now) storage-bytes (flag (its-args .enabled)));
+      long = long (its-args .image .now) (its-open .result) (its-open .ensures) (its-if1 .left);
+    }
 
 returns-2 : tie.Need-returns-2
 returns-2 c =

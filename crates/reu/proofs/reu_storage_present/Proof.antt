@@ -1,5 +1,8 @@
+use mathlib.Core.Path.{sym, subst}
 use Rattle.controller.specs.Calls.{storagePresentCall}
-use Rattle.reu.proofs.Families.{look-refused, look-done}
+use Rattle.reu.proofs.Families.{look-refused, look-done, sound, bytes-of}
+use Rattle.reu.proofs.Wholes.{storage-present-whole}
+use Rattle.reu.specs.Inner.{Whole}
 use borrow.Author.Needs.{needs}
 use Rattle.reu.proofs.reu_storage_present.Statement.{statement}
 use Rattle.reu.proofs.reu_storage_present.Tie as tie
@@ -11,6 +14,15 @@ returns c =
     let its-args = c .before .before .before .before .args in
     look-refused (its-args .image .now) (its-open .result) (its-open .ensures) (its-if1 .taken) _
     (c .refused .ensures) storagePresentCall
+
+code-of-requires : tie.Need-code-of-requires
+code-of-requires c κs =
+    let its-if1 = c .before .before .if1 in
+    let its-open = c .before .before .before .«open» in
+    let its-args = c .before .before .before .before .before .args in
+    let its-bytes = bytes-of (its-args .image .now) (c .before .before .before .before .shared-slice-known .given) in
+    let its-sound = sound (its-args .image .now) (its-open .result) (its-open .ensures) (its-if1 .left) its-bytes in
+    subst Whole (sym (c .storage-present .ensures)) (storage-present-whole (its-open .result .reu) its-sound) .carried
 
 returns-2 : tie.Need-returns-2
 returns-2 c =
@@ -25,4 +37,4 @@ pub reu-storage-present-spec : {M : Type 1} → statement M
 reu-storage-present-spec =
     tie.close
     (tie.spec (λ c κs. search needs) (λ c κs. search needs) returns (λ c κs. search needs)
-    (λ c κs. search needs) returns-2)
+    code-of-requires returns-2)

@@ -1,6 +1,12 @@
+use mathlib.Core.Path.{sym, ap, subst}
+use mathlib.Core.List.{List}
+use Prim.Native.Nat.{ℕ}
 use Rattle.controller.specs.Calls.{tickCall}
 use Rattle.reu.specs.Exports.{flag}
-use Rattle.reu.proofs.Families.{both-refused, both-done, long}
+use Rattle.reu.proofs.Families.{both-refused, both-done, long, sound, bytes-of}
+use Rattle.reu.proofs.Wholes.{tick-whole}
+use Rattle.reu.specs.Inner.{Whole}
+use Rattle.controller.specs.declared.reu.Answer.{Answer}
 use borrow.Author.Needs.{needs}
 use Rattle.reu.proofs.reu_tick_dma.Statement.{statement}
 use Rattle.reu.proofs.reu_tick_dma.Tie as tie
@@ -16,10 +22,20 @@ returns c =
 
 finish-requires : tie.Need-finish-requires
 finish-requires c κs =
+    let its-tick-dma = c .before .before .before .before .before .tick-dma in
     let its-if1 = c .before .before .before .before .before .before .before .before .before .if1 in
     let its-open = c .before .before .before .before .before .before .before .before .before .before .«open» in
     let its-args = c .before .before .before .before .before .before .before .before .before .before .before .before .before .before .before .args in
-    long (its-args .image .now) (its-open .result) (its-open .ensures) (its-if1 .left)
+    let image-bytes = bytes-of (its-args .image .now) (c .before .before .before .before .before .before .before .before .before .before .before .before .before .before .slice-known .given) in
+    let bus-bytes = bytes-of (its-args .bus .now) (c .before .before .before .before .before .before .before .before .before .before .before .before .before .slice-known2 .given) in
+    let storage-bytes = bytes-of (its-args .storage .now) (c .before .before .before .before .before .before .before .before .before .before .before .before .slice-known3 .given) in
+    let its-sound = sound (its-args .image .now) (its-open .result) (its-open .ensures) (its-if1 .left) image-bytes in
+    record {
+      whole =
+          subst Whole (sym (ap (λ (x : Answer × List ℕ × List ℕ). x .0) (its-tick-dma .ensures)))
+          (tick-whole (its-open .result .reu) its-sound (its-args .storage .now) storage-bytes (its-args .bus .now) bus-bytes (its-args .cycle) (flag (its-args .ba-low)));
+      long = long (its-args .image .now) (its-open .result) (its-open .ensures) (its-if1 .left);
+    }
 
 returns-2 : tie.Need-returns-2
 returns-2 c =
