@@ -1,5 +1,6 @@
 -- What each exported call does on the image of a sound controller: it is accepted, and does what the core's definition says.
 use Prim.Native.Nat.{ℕ}
+use native.Mathlib.Nat.{zero-add}
 use mathlib.Core.Bool.{Bool, true, cond}
 use mathlib.Core.Path.{_≡_, refl, ap, _∙_}
 use mathlib.Core.List.{List}
@@ -25,8 +26,8 @@ use Rattle.image.specs.Layout.{imageSize, packImage}
 use Rattle.image.specs.Open.{openImage}
 use Rattle.image.proofs.Packed.{open-pack, pack-long}
 use Rattle.reu.specs.Exports.{flag, refusal, code, imageAfter, look, changed, change, changedStorage, changeStorage, changedBoth, changeBoth, reuNew, reuReset, reuSetEnabled, reuStoragePresent, reuCapacityBytes, reuTriggerFf00, reuRead, reuWrite, reuDmaActive, reuBusAction, reuCpuReady, reuDebugRegister, reuC64Access, reuTickDma, reuCycle}
-use Rattle.claims.proofs.Sound.{Sound}
-use Rattle.claims.proofs.Valid.{sound-well, sound-typed}
+use Rattle.image.proofs.Sound.{Sound}
+use Rattle.image.proofs.Valid.{sound-well, sound-typed}
 
 module _ (u : Reu) (sound : Sound u) where
   opened : openImage (packImage u) ≡ record { refusal = 0; reu = u }
@@ -46,30 +47,34 @@ module _ (u : Reu) (sound : Sound u) where
 
   -- ---- the families
 
+  accepted-code : (v : ℕ) (w : Reu) → code (answered v w) ≡ v
+  unfolding code
+  accepted-code v w = zero-add v
+
   look-is : (f : Reu → Answer) (v : ℕ) (w : Reu) → f u ≡ answered v w → look f (packImage u) ≡ v
-  unfolding look checked code
+  unfolding look checked
   look-is f v w e =
-      ap (λ (o : Opened). checked (o .refusal) refusal (code (f (o .reu)))) opened ∙ ap code e
+      ap (λ (o : Opened). checked (o .refusal) refusal (code (f (o .reu)))) opened ∙ ap code e ∙ accepted-code v w
 
   change-is : (f : Reu → Answer) (v : ℕ) (w : Reu) → f u ≡ answered v w → change f (packImage u) ≡ (v, packImage w)
-  unfolding change checked code imageAfter
+  unfolding change checked imageAfter
   change-is f v w e =
       ap (λ (o : Opened). checked (o .refusal) (λ n. (refusal n, packImage u)) (changed (f (o .reu)) (packImage u))) opened
-      ∙ ap (λ (a : Answer). changed a (packImage u)) e
+      ∙ ap (λ (a : Answer). changed a (packImage u)) e ∙ (λ i. (accepted-code v w i, packImage w))
 
   storage-is : (f : Reu → List ℕ → (Answer × List ℕ)) (s : List ℕ) (v : ℕ) (w : Reu) (t : List ℕ) → f u s ≡ (answered v w, t)
       → changeStorage f (packImage u) s ≡ (v, packImage w, t)
-  unfolding changeStorage checked code imageAfter
+  unfolding changeStorage checked imageAfter
   storage-is f s v w t e =
       ap (λ (o : Opened). checked (o .refusal) (λ n. (refusal n, packImage u, s)) (changedStorage (f (o .reu) s) (packImage u))) opened
-      ∙ ap (λ (a : Answer × List ℕ). changedStorage a (packImage u)) e
+      ∙ ap (λ (a : Answer × List ℕ). changedStorage a (packImage u)) e ∙ (λ i. (accepted-code v w i, packImage w, t))
 
   both-is : (f : Reu → List ℕ → List ℕ → (Answer × List ℕ × List ℕ)) (m s : List ℕ) (v : ℕ) (w : Reu) (b t : List ℕ) → f u m s ≡ (answered v w, b, t)
       → changeBoth f (packImage u) m s ≡ (v, packImage w, b, t)
-  unfolding changeBoth checked code imageAfter
+  unfolding changeBoth checked imageAfter
   both-is f m s v w b t e =
       ap (λ (o : Opened). checked (o .refusal) (λ n. (refusal n, packImage u, m, s)) (changedBoth (f (o .reu) m s) (packImage u))) opened
-      ∙ ap (λ (a : Answer × List ℕ × List ℕ). changedBoth a (packImage u)) e
+      ∙ ap (λ (a : Answer × List ℕ × List ℕ). changedBoth a (packImage u)) e ∙ (λ i. (accepted-code v w i, packImage w, b, t))
 
   -- ---- the calls
 

@@ -275,7 +275,7 @@ last-step u c e l h len m s n low =
 pub record Kept (u w : Reu) : Type 0 where
   pub regs : (i : ℕ) → i ≢ 0 → reg w i ≡ reg u i
   pub c64 : w .«shadow_c64_addr» ≡ u .«shadow_c64_addr»
-  pub reu : w .«shadow_reu_addr» ≡ u .«shadow_reu_addr»
+  pub exp : w .«shadow_reu_addr» ≡ u .«shadow_reu_addr»
   pub len : w .«shadow_len» ≡ u .«shadow_len»
   pub attached : w .attached ≡ u .attached
   pub dma : w .dma ≡ u .dma
@@ -295,7 +295,7 @@ still : {answer waiting was repeat terminal late refresh release : Bool} {delay 
       m,
       s,
     )
-still u m s = record { bus = refl; storage = refl; kept = record { regs = λ i h. refl; c64 = refl; reu = refl; len = refl; attached = refl; dma = refl } }
+still u m s = record { bus = refl; storage = refl; kept = record { regs = λ i h. refl; c64 = refl; exp = refl; len = refl; attached = refl; dma = refl } }
 
 -- the controller when an idle cycle's action is chosen
 abbrev before-choice : Reu → Bool → Bool → ℕ → Reu

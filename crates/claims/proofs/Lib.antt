@@ -1,5 +1,3 @@
-pub mod Sound
-pub mod Valid
 pub mod Accepted
 pub mod States
 pub mod Walk

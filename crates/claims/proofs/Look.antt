@@ -12,23 +12,18 @@ use native.Mathlib.Omega.{arith}
 use borrow.Author.Tests.{eq-eqb, ne-eqb, eqb-false, lt-ltb}
 use Rattle.controller.specs.declared.dma.Dma.{Dma}
 use Rattle.controller.specs.declared.dma.Dma.the-variants.{Idle, Running}
+use Rattle.controller.specs.Bytes.{bit}
 use Rattle.controller.specs.Reu.{reg}
+use Rattle.controller.proofs.Bits.{bit-zero, zero-bit}
 use Rattle.controller.specs.Registers.{readAt, readRegister, debugRegister}
 use Rattle.image.specs.Layout.{packImage, reuAt, present, middleBytes, transferBytes}
 use Rattle.reu.specs.Exports.{reuDebugRegister}
 use Rattle.claims.specs.Calls.{Held}
 use Rattle.claims.specs.SwapTwice.{byte, Start, OfBlock, Shown, Ended}
-use Rattle.claims.proofs.Valid.{open-sound, pack-back}
+use Rattle.image.proofs.Valid.{open-sound, pack-back}
 use Rattle.claims.proofs.Accepted.{read-is, debug-is}
 use Rattle.claims.proofs.States.{St, Good, held}
 use Rattle.claims.proofs.RegisterLaw.{Value, Seven, two, three, four, five, six, seven, eight, is-seven}
-
--- a bit that is clear
-pub bit-clear : (q : ℕ) → eqb (q % 2) 1 ≡ false → q % 2 ≡ 0
-bit-clear q e = omega (arith, eqb-false (q % 2) 1 e)
-
-clear-bit : (q : ℕ) → q % 2 ≡ 0 → eqb (q % 2) 1 ≡ false
-clear-bit q e = ne-eqb (q % 2) 1 (λ o. omega arith)
 
 upper-bits : (v : ℕ) → v < 256 → v / 64 % 2 ≡ 0 → v / 128 % 2 ≡ 0 → v / 64 ≡ 0
 upper-bits v h a b =
@@ -61,10 +56,10 @@ module _ (x : St) (g : Good x) where
 
   -- bit 7 of COMMAND
   pub ended-reg : Ended (held x) → reg (x .u) 1 / 128 % 2 ≡ 0
-  ended-reg e = bit-clear (reg (x .u) 1 / 128) (ap (λ (v : ℕ). eqb (v / 128 % 2) 1) (sym (reg-byte 1 (omega arith))) ∙ e)
+  ended-reg e = bit-zero (reg (x .u) 1) 7 (ap (λ (v : ℕ). bit v 7) (sym (reg-byte 1 (omega arith))) ∙ e)
 
   pub reg-ended : reg (x .u) 1 / 128 % 2 ≡ 0 → Ended (held x)
-  reg-ended e = ap (λ (v : ℕ). eqb (v / 128 % 2) 1) (reg-byte 1 (omega arith)) ∙ clear-bit (reg (x .u) 1 / 128) e
+  reg-ended e = ap (λ (v : ℕ). bit v 7) (reg-byte 1 (omega arith)) ∙ zero-bit (reg (x .u) 1) 7 e
 
   -- the values shown of a register
   read-shows : {r : ℕ} → Seven r → (v : ℕ) → v ≡ readAt (x .u) r .value → Value (reg (x .u)) r v
@@ -121,7 +116,7 @@ module _ (k : Held) (st : Start k) where
 
   unfixed : byte k 10 / 64 ≡ 0
   unfixed =
-      upper-bits (byte k 10) (st .image-bytes .below 10) (bit-clear (byte k 10 / 64) (st .reu-unfixed)) (bit-clear (byte k 10 / 128) (st .c64-unfixed))
+      upper-bits (byte k 10) (st .image-bytes .below 10) (bit-zero (byte k 10) 6 (st .exp-unfixed)) (bit-zero (byte k 10) 7 (st .c64-unfixed))
 
   pub opened-idling : Idling (opened k)
   unfolding reuAt

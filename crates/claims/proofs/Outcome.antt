@@ -6,7 +6,7 @@ use mathlib.Core.Logic.{_≢_}
 use mathlib.Core.List.{List, [], _∷_, _++_, append-nil}
 use native.Mathlib.Omega.{arith}
 use Rattle.controller.specs.declared.dma.Dma.the-variants.{Idle}
-use Rattle.controller.specs.Bytes.{word}
+use Rattle.controller.specs.Bytes.{word, long}
 use Rattle.controller.specs.Reu.{reg}
 use Rattle.controller.specs.Dma.{lengthOf}
 use Rattle.claims.specs.Calls.{Held, Kind, NumbersFit, Call, leaves, accepts, next, after, Each, count}
@@ -16,7 +16,7 @@ use Rattle.claims.proofs.Exchange.{Exch, exch-twice}
 use Rattle.claims.proofs.States.{St, Good, held, on, stepOf, leaves-is, good-step}
 use Rattle.claims.proofs.Walk.{after-append, each-left, each-right, each-both, each-of-all, widen, At, each-at, next-is, Walked, walk}
 use Rattle.claims.proofs.Look.{idle-byte, shown-value, Idling, opened, opened-good, opened-is, opened-idling}
-use Rattle.claims.proofs.Swap.{onBus, onStorage, Allowed, idle-high, c64-of, reu-of, len-of, Swapping, SwapFrom, OverFrom, over-from, ended-from, step-from, begins}
+use Rattle.claims.proofs.Swap.{onBus, onStorage, Allowed, idle-high, c64-of, exp-of, len-of, Swapping, SwapFrom, OverFrom, over-from, ended-from, step-from, begins}
 
 -- ---- what is known of each call, joined
 
@@ -135,7 +135,7 @@ module _ (k : Held) (x : St) (c : Call) (cs : List Call) (f : FromStart k x c cs
 -- ---- the block that is shown
 
 -- the upper five bits of the bank make no difference
-same-places : (e e′ lo hi b b′ : ℕ) → b′ % 8 ≡ b % 8 → e ≡ b * 65536 + word lo hi → e′ ≡ b′ * 65536 + word lo hi → (i : ℕ) → onStorage e′ i ≡ onStorage e i
+same-places : (e e′ lo hi b b′ : ℕ) → b′ % 8 ≡ b % 8 → e ≡ long lo hi b → e′ ≡ long lo hi b′ → (i : ℕ) → onStorage e′ i ≡ onStorage e i
 same-places e e′ lo hi b b′ q p p′ i = omega arith
 
 module _ (k : Held) (x : St) (e : k ≡ held x) (good : Good x) (w : ℕ → ℕ) (shown : ShownAll k w) where
@@ -148,10 +148,10 @@ module _ (k : Held) (x : St) (e : k ≡ held x) (good : Good x) (w : ℕ → ℕ
   bus-place : (i : ℕ) → onBus (c64-of (x .u)) i ≡ busPlace w i
   bus-place i = omega (arith, shows 2 (omega arith) (omega arith), shows 3 (omega arith) (omega arith))
 
-  storage-place : (i : ℕ) → onStorage (reu-of (x .u)) i ≡ storagePlace w i
+  storage-place : (i : ℕ) → onStorage (exp-of (x .u)) i ≡ storagePlace w i
   storage-place i =
-      sym (same-places (reu-of (x .u)) (w 6 * 65536 + word (w 4) (w 5)) (reg (x .u) 4) (reg (x .u) 5) (reg (x .u) 6) (w 6) (value 6 (omega arith) .0) refl
-      (λ j. w 6 * 65536 + word (shows 4 (omega arith) (omega arith) j) (shows 5 (omega arith) (omega arith) j)) i)
+      sym (same-places (exp-of (x .u)) (long (w 4) (w 5) (w 6)) (reg (x .u) 4) (reg (x .u) 5) (reg (x .u) 6) (w 6) (value 6 (omega arith) .0) refl
+      (λ j. long (shows 4 (omega arith) (omega arith) j) (shows 5 (omega arith) (omega arith) j) (w 6)) i)
       ∙ omega arith
 
   block-length : len-of (x .u) ≡ blockLength w
@@ -161,7 +161,7 @@ module _ (k : Held) (x : St) (e : k ≡ held x) (good : Good x) (w : ℕ → ℕ
       = omega (arith, shows 7 (omega arith) (omega arith), shows 8 (omega arith) (omega arith)) in
       ap lengthOf q
 
-  shown-block : (a b : Held) → Exch (onBus (c64-of (x .u))) (onStorage (reu-of (x .u))) (len-of (x .u)) (a .bus) (a .storage) (b .bus) (b .storage)
+  shown-block : (a b : Held) → Exch (onBus (c64-of (x .u))) (onStorage (exp-of (x .u))) (len-of (x .u)) (a .bus) (a .storage) (b .bus) (b .storage)
       → Exchanged w a b
   shown-block a b ex =
       let f : Exch (busPlace w) (storagePlace w) (blockLength w) (a .bus) (a .storage) (b .bus) (b .storage)
@@ -245,11 +245,11 @@ module _ (a : Held) (p : Parts) (sa : Start a) (ra : RunA a p) where
       let d = pair-done (middle-over .rewritten .len) (once 7 (omega arith)) (once 8 (omega arith)) in
       λ i. lengthOf (word (d .0 i) (d .1 i))
 
-  reu-again : (i : ℕ) → onStorage (reu-of (x₃ .u)) i ≡ onStorage (reu-of (x₁ .u)) i
-  reu-again i =
-      let d = pair-done (middle-over .rewritten .reu) (once 4 (omega arith)) (once 5 (omega arith)) in
-      same-places (reu-of (x₁ .u)) (reu-of (x₃ .u)) (reg (x₁ .u) 4) (reg (x₁ .u) 5) (reg (x₁ .u) 6) (reg (x₃ .u) 6)
-      (middle-over .rewritten .bank (omega (arith, once 6 (omega arith)))) refl (λ j. reg (x₃ .u) 6 * 65536 + word (d .0 j) (d .1 j)) i
+  exp-again : (i : ℕ) → onStorage (exp-of (x₃ .u)) i ≡ onStorage (exp-of (x₁ .u)) i
+  exp-again i =
+      let d = pair-done (middle-over .rewritten .exp) (once 4 (omega arith)) (once 5 (omega arith)) in
+      same-places (exp-of (x₁ .u)) (exp-of (x₃ .u)) (reg (x₁ .u) 4) (reg (x₁ .u) 5) (reg (x₁ .u) 6) (reg (x₃ .u) 6)
+      (middle-over .rewritten .bank (omega (arith, once 6 (omega arith)))) refl (λ j. long (d .0 j) (d .1 j) (reg (x₃ .u) 6)) i
 
   -- the second swap
   second-swap : FromStart (atRestart a p) x₃ (p .restart) (p .last)
@@ -264,10 +264,10 @@ module _ (a : Held) (p : Parts) (sa : Start a) (ra : RunA a p) where
 
   back : (last-part .to .m ≡ x₁ .m) × (last-part .to .s ≡ x₁ .s)
   back =
-      exch-twice (onBus (c64-of (x₁ .u))) (onStorage (reu-of (x₁ .u))) (len-of (x₁ .u)) (x₁ .m) (x₁ .s) (x₃ .m) (x₃ .s) (last-part .to .m) (last-part .to .s)
+      exch-twice (onBus (c64-of (x₁ .u))) (onStorage (exp-of (x₁ .u))) (len-of (x₁ .u)) (x₁ .m) (x₁ .s) (x₃ .m) (x₃ .s) (last-part .to .m) (last-part .to .s)
       (middle-over .exch)
       (subst₃ (λ (C E : ℕ → ℕ) (n : ℕ). Exch C E n (x₃ .m) (x₃ .s) (last-part .to .m) (last-part .to .s))
-      (ap onBus c64-again) (fun-ext reu-again) len-again
+      (ap onBus c64-again) (fun-ext exp-again) len-again
       (over-at (atRestart a p) x₃ (p .restart) (p .last) second-swap (p .last) last-part (ra .second .ends) .exch))
 
   whole-is : after a (listOf p) ≡ held (last-part .to)
@@ -286,7 +286,7 @@ module _ (a : Held) (p : Parts) (sa : Start a) (ra : RunA a p) where
         let ex = over-at (atStart a p) x₁ (p .start) (p .middle) first-swap done r en .exch in
         subst (Exchanged w a) (sym (r .same))
         (shown-block (atStart a p) x₁ start-is good₁ w shown a (held (r .to))
-        (subst₂ (λ (m s : List ℕ). Exch (onBus (c64-of (x₁ .u))) (onStorage (reu-of (x₁ .u))) (len-of (x₁ .u)) m s (r .to .m) (r .to .s)) bus₁ storage₁ ex))
+        (subst₂ (λ (m s : List ℕ). Exch (onBus (c64-of (x₁ .u))) (onStorage (exp-of (x₁ .u))) (len-of (x₁ .u)) m s (r .to .m) (r .to .s)) bus₁ storage₁ ex))
 
     length-is : len-of (x₁ .u) ≡ blockLength w
     length-is = block-length (atStart a p) x₁ start-is good₁ w shown

@@ -16,22 +16,17 @@ use Rattle.controller.specs.declared.dma.DmaState.{DmaState}
 use Rattle.controller.specs.declared.reu.ReadAnswer.{ReadAnswer}
 use Rattle.controller.specs.declared.dma.Dma.the-variants.{Running}
 use Rattle.controller.specs.declared.dma.TransferType.{TransferType}
-use Rattle.controller.specs.declared.dma.TransferType.the-variants.{Swap}
+use Rattle.controller.specs.declared.dma.TransferType.the-variants.{Store, Recall, Swap, Verify}
 use Rattle.controller.specs.declared.dma.SwapPhase.the-variants.{ReadC64}
-use Rattle.controller.specs.Bytes.{bit, word, withLow, withHigh, withBank}
+use Rattle.controller.specs.Bytes.{bit, word, long, withLow, withHigh, withBank}
+use Rattle.controller.proofs.Bits.{zero-bit}
 use Rattle.controller.specs.Reu.{reg, setReg, withIrq, withArmed, withDma, cleared}
-use Rattle.controller.specs.Registers.{shown, writeAt, writeC64, writeReu, writeLen, readRegister, writeRegister, writeCommand}
+use Rattle.controller.specs.Registers.{shown, writeAt, writeC64, writeExp, writeLen, readRegister, writeRegister, writeCommand}
 use Rattle.controller.specs.Dma.{typeOf, lengthOf}
 use Rattle.controller.specs.StartDma.{requested, startDma}
 use Rattle.claims.proofs.CycleLaw.{Reading, Kept, Quiet, swapState}
 
--- ---- bits
-
-pub bit-on : (v n q : ℕ) → bitAnd v (2 ^ n) ≡ q → q ≢ 0 → bit v n ≡ true
-bit-on v n q e ne = ap not (ne-eqb (bitAnd v (2 ^ n)) 0 (λ z. ne (sym e ∙ z)))
-
-pub bit-off : (v n : ℕ) → bitAnd v (2 ^ n) ≡ 0 → bit v n ≡ false
-bit-off v n e = ap not (eq-eqb (bitAnd v (2 ^ n)) 0 e)
+-- ---- tests and indices
 
 on {ℓ} : {A : Type ℓ} (b : Bool) (x y : A) → b ≡ true → cond b x y ≡ x
 on b x y e = ap (λ (t : Bool). cond t x y) e
@@ -60,12 +55,12 @@ asked t c e r fc fr auto =
 
 pub record Begun (u : Reu) (v : ℕ) (w : Reu) : Type 0 where
   pub reading :
-      Reading w (word (reg u 2) (reg u 3)) (reg u 6 * 65536 + word (reg u 4) (reg u 5)) (lengthOf (word (reg u 7) (reg u 8)))
+      Reading w (word (reg u 2) (reg u 3)) (long (reg u 4) (reg u 5) (reg u 6)) (lengthOf (word (reg u 7) (reg u 8)))
   pub command : reg w 1 ≡ v
   pub control : reg w 10 ≡ reg u 10
 
 module _ (u : Reu) (v : ℕ) (len : length (u .regs) ≡ 11) (att : u .attached ≡ true) (fixed : reg u 10 / 64 ≡ 0)
-    (swap : v % 4 ≡ 2) (now : v / 16 % 2 ≡ 1) (go : v / 128 % 2 ≡ 1) where
+    (swap : v % 4 ≡ 2) (now : bit v 4 ≡ true) (go : bit v 7 ≡ true) where
   command-is : reg (setReg u 1 v) 1 ≡ v
   command-is = getD-set-same (u .regs) 1 v 0 (omega arith)
 
@@ -73,26 +68,28 @@ module _ (u : Reu) (v : ℕ) (len : length (u .regs) ≡ 11) (att : u .attached 
   other-is i h = getD-set-other (u .regs) 1 i v 0 h
 
   requested-is : requested (setReg u 1 v)
-      ≡ swapState ReadC64 (word (reg u 2) (reg u 3)) (reg u 6 * 65536 + word (reg u 4) (reg u 5)) (lengthOf (word (reg u 7) (reg u 8))) 0 (bit (reg (setReg u 1 v) 1) 5) true false
+      ≡ swapState ReadC64 (word (reg u 2) (reg u 3)) (long (reg u 4) (reg u 5) (reg u 6)) (lengthOf (word (reg u 7) (reg u 8))) 0 (bit (reg (setReg u 1 v) 1) 5) true false
   unfolding asked requested typeOf
   requested-is =
       λ i. asked (kind i) (word (other-is 2 (omega arith) i) (other-is 3 (omega arith) i))
-      (other-is 6 (omega arith) i * 65536 + word (other-is 4 (omega arith) i) (other-is 5 (omega arith) i))
+      (long (other-is 4 (omega arith) i) (other-is 5 (omega arith) i) (other-is 6 (omega arith) i))
       (lengthOf (word (other-is 7 (omega arith) i) (other-is 8 (omega arith) i)))
-      (fix-c64 i) (fix-reu i) (bit (reg (setReg u 1 v) 1) 5)
+      (fix-c64 i) (fix-exp i) (bit (reg (setReg u 1 v) 1) 5)
     where
-      kind : typeOf (bitAnd (reg (setReg u 1 v) 1) 3) ≡ Swap
-      kind = ap (λ (x : ℕ). typeOf (bitAnd x 3)) command-is ∙ ap typeOf (and-mask v 2 ∙ swap)
+      kind : typeOf (reg (setReg u 1 v) 1) ≡ Swap
+      kind =
+          ap typeOf command-is
+          ∙ ap (λ (n : ℕ). cond (eqb n 0) Store (cond (eqb n 1) Recall (cond (eqb n 2) Swap Verify))) (and-mask v 2 ∙ swap)
 
       fix-c64 : bit (reg (setReg u 1 v) 10) 7 ≡ false
       fix-c64 =
           ap (λ (x : ℕ). bit x 7) (other-is 10 (omega arith))
-          ∙ bit-off (reg u 10) 7 (and-high (reg u 10) 1 7 ∙ omega arith)
+          ∙ zero-bit (reg u 10) 7 (omega arith)
 
-      fix-reu : bit (reg (setReg u 1 v) 10) 6 ≡ false
-      fix-reu =
+      fix-exp : bit (reg (setReg u 1 v) 10) 6 ≡ false
+      fix-exp =
           ap (λ (x : ℕ). bit x 6) (other-is 10 (omega arith))
-          ∙ bit-off (reg u 10) 6 (and-high (reg u 10) 1 6 ∙ omega arith)
+          ∙ zero-bit (reg u 10) 6 (omega arith)
 
   started-as : Reu
   started-as = withDma (withIrq (setReg (cleared (setReg u 1 v)) 0 (bitAnd (reg (setReg u 1 v) 0) 16)) false) (Running (requested (setReg u 1 v)))
@@ -101,9 +98,9 @@ module _ (u : Reu) (v : ℕ) (len : length (u .regs) ≡ 11) (att : u .attached 
   unfolding started-as writeCommand startDma requested
   command-starts =
       on (bit v 7) (cond (bit v 4) (startDma (withArmed (setReg u 1 v) false)) (withArmed (setReg u 1 v) true)) (withArmed (setReg u 1 v) false)
-      (bit-on v 7 128 (and-high v 1 7 ∙ ap (λ (x : ℕ). x * 128) go) (omega arith))
+      go
       ∙ on (bit v 4) (startDma (withArmed (setReg u 1 v) false)) (withArmed (setReg u 1 v) true)
-      (bit-on v 4 16 (and-high v 1 4 ∙ ap (λ (x : ℕ). x * 16) now) (omega arith))
+      now
       ∙ on (u .attached) started-as (setReg (cleared (setReg u 1 v)) 1 (bitAnd (reg (setReg u 1 v) 1) 127)) att
 
   started-begun : Begun u v started-as
@@ -126,9 +123,9 @@ module _ (u : Reu) (v : ℕ) (len : length (u .regs) ≡ 11) (att : u .attached 
 read-kept : (u : Reu) (b c : Bool) (x y z : ℕ)
     → Kept u (cond {A = ReadAnswer} b (cond c (record { value = x; reu = withIrq (setReg u 0 y) false }) (record { value = z; reu = u })) (record { value = 255; reu = u }) .reu)
 read-kept u true true x y z =
-    record { regs = λ i h. getD-set-other (u .regs) 0 i y 0 h; c64 = refl; reu = refl; len = refl; attached = refl; dma = refl }
-read-kept u true false x y z = record { regs = λ i h. refl; c64 = refl; reu = refl; len = refl; attached = refl; dma = refl }
-read-kept u false c x y z = record { regs = λ i h. refl; c64 = refl; reu = refl; len = refl; attached = refl; dma = refl }
+    record { regs = λ i h. getD-set-other (u .regs) 0 i y 0 h; c64 = refl; exp = refl; len = refl; attached = refl; dma = refl }
+read-kept u true false x y z = record { regs = λ i h. refl; c64 = refl; exp = refl; len = refl; attached = refl; dma = refl }
+read-kept u false c x y z = record { regs = λ i h. refl; c64 = refl; exp = refl; len = refl; attached = refl; dma = refl }
 
 read-quiet : (u : Reu) (b c : Bool) (x y z : ℕ) → Quiet u
     → Quiet (cond {A = ReadAnswer} b (cond c (record { value = x; reu = withIrq (setReg u 0 y) false }) (record { value = z; reu = u })) (record { value = 255; reu = u }) .reu)
@@ -205,19 +202,19 @@ pair-done h ep eq = (h .loaded (omega arith) .0 ∙ h .low (omega arith), h .loa
 -- the seven registers of u, each r of them written g r times with the value W r; of the bank the low three bits count
 pub record Rewritten (W g : ℕ → ℕ) (u : Reu) : Type 0 where
   pub c64 : Pair (u .«shadow_c64_addr») (reg u 2) (reg u 3) (g 2) (g 3) (W 2) (W 3)
-  pub reu : Pair (u .«shadow_reu_addr») (reg u 4) (reg u 5) (g 4) (g 5) (W 4) (W 5)
+  pub exp : Pair (u .«shadow_reu_addr») (reg u 4) (reg u 5) (g 4) (g 5) (W 4) (W 5)
   pub len : Pair (u .«shadow_len») (reg u 7) (reg u 8) (g 7) (g 8) (W 7) (W 8)
   pub bank : 0 < g 6 → reg u 6 % 8 ≡ W 6 % 8
 
 pub rewritten-none : (W : ℕ → ℕ) (u : Reu) → Rewritten W (λ r. 0) u
 rewritten-none W u =
-    record { c64 = pair-none; reu = pair-none; len = pair-none; bank = λ h. absurd (omega arith) }
+    record { c64 = pair-none; exp = pair-none; len = pair-none; bank = λ h. absurd (omega arith) }
 
 pub rewritten-keep : (W g g′ : ℕ → ℕ) (u w : Reu) → Kept u w → ((r : ℕ) → g′ r ≡ g r) → Rewritten W g u → Rewritten W g′ w
 rewritten-keep W g g′ u w k e h =
     record {
       c64 = pair-keep (h .c64) (k .c64) (k .regs 2 (omega arith)) (k .regs 3 (omega arith)) (e 2) (e 3);
-      reu = pair-keep (h .reu) (k .reu) (k .regs 4 (omega arith)) (k .regs 5 (omega arith)) (e 4) (e 5);
+      exp = pair-keep (h .exp) (k .exp) (k .regs 4 (omega arith)) (k .regs 5 (omega arith)) (e 4) (e 5);
       len = pair-keep (h .len) (k .len) (k .regs 7 (omega arith)) (k .regs 8 (omega arith)) (e 7) (e 8);
       bank = λ p. ap (λ (x : ℕ). x % 8) (k .regs 6 (omega arith)) ∙ h .bank (omega (arith, e 6));
     }
@@ -266,17 +263,17 @@ module _ (W g : ℕ → ℕ) (u : Reu) (len : length (u .regs) ≡ 11) (h : Rewr
   write-c64 g′ n counts p =
       record {
         c64 = this-pair W g g′ (u .regs) 2 3 n counts (omega arith) p;
-        reu = other-pair W g g′ (u .regs) 2 3 n counts 4 5 (omega arith) (h .reu);
+        exp = other-pair W g g′ (u .regs) 2 3 n counts 4 5 (omega arith) (h .exp);
         len = other-pair W g g′ (u .regs) 2 3 n counts 7 8 (omega arith) (h .len);
         bank = other-bank W g g′ (u .regs) 2 3 n counts (omega arith) (h .bank);
       }
 
-  write-reu : (g′ : ℕ → ℕ) (n : ℕ) → ((r : ℕ) → r ≢ 4 → r ≢ 5 → g′ r ≡ g r) → Pair n (n % 256) (n / 256 % 256) (g′ 4) (g′ 5) (W 4) (W 5)
-      → Rewritten W g′ (writeReu u n)
-  write-reu g′ n counts p =
+  write-exp : (g′ : ℕ → ℕ) (n : ℕ) → ((r : ℕ) → r ≢ 4 → r ≢ 5 → g′ r ≡ g r) → Pair n (n % 256) (n / 256 % 256) (g′ 4) (g′ 5) (W 4) (W 5)
+      → Rewritten W g′ (writeExp u n)
+  write-exp g′ n counts p =
       record {
         c64 = other-pair W g g′ (u .regs) 4 5 n counts 2 3 (omega arith) (h .c64);
-        reu = this-pair W g g′ (u .regs) 4 5 n counts (omega arith) p;
+        exp = this-pair W g g′ (u .regs) 4 5 n counts (omega arith) p;
         len = other-pair W g g′ (u .regs) 4 5 n counts 7 8 (omega arith) (h .len);
         bank = other-bank W g g′ (u .regs) 4 5 n counts (omega arith) (h .bank);
       }
@@ -286,7 +283,7 @@ module _ (W g : ℕ → ℕ) (u : Reu) (len : length (u .regs) ≡ 11) (h : Rewr
   write-len g′ n counts p =
       record {
         c64 = other-pair W g g′ (u .regs) 7 8 n counts 2 3 (omega arith) (h .c64);
-        reu = other-pair W g g′ (u .regs) 7 8 n counts 4 5 (omega arith) (h .reu);
+        exp = other-pair W g g′ (u .regs) 7 8 n counts 4 5 (omega arith) (h .exp);
         len = this-pair W g g′ (u .regs) 7 8 n counts (omega arith) p;
         bank = other-bank W g g′ (u .regs) 7 8 n counts (omega arith) (h .bank);
       }
@@ -297,13 +294,13 @@ module _ (W g : ℕ → ℕ) (u : Reu) (len : length (u .regs) ≡ 11) (h : Rewr
   write-seven v three fits e =
       write-c64 (more 3 g) (withHigh (u .«shadow_c64_addr») v) (high-counts 2 3) (pair-high v (h .c64) (e .1 (omega arith)) fits (zero-add (g 2)))
   write-seven v four fits e =
-      write-reu (more 4 g) (withLow (u .«shadow_reu_addr») v) (low-counts 4 5) (pair-low v (h .reu) (e .1 (omega arith)) fits (zero-add (g 5)))
+      write-exp (more 4 g) (withLow (u .«shadow_reu_addr») v) (low-counts 4 5) (pair-low v (h .exp) (e .1 (omega arith)) fits (zero-add (g 5)))
   write-seven v five fits e =
-      write-reu (more 5 g) (withHigh (u .«shadow_reu_addr») v) (high-counts 4 5) (pair-high v (h .reu) (e .1 (omega arith)) fits (zero-add (g 4)))
+      write-exp (more 5 g) (withHigh (u .«shadow_reu_addr») v) (high-counts 4 5) (pair-high v (h .exp) (e .1 (omega arith)) fits (zero-add (g 4)))
   write-seven v six fits e =
       record {
         c64 = pair-keep (h .c64) refl (rest 2 (omega arith)) (rest 3 (omega arith)) (zero-add (g 2)) (zero-add (g 3));
-        reu = pair-keep (pair-bank w (h .reu)) refl (rest 4 (omega arith)) (rest 5 (omega arith)) (zero-add (g 4)) (zero-add (g 5));
+        exp = pair-keep (pair-bank w (h .exp)) refl (rest 4 (omega arith)) (rest 5 (omega arith)) (zero-add (g 4)) (zero-add (g 5));
         len = pair-keep (h .len) refl (rest 7 (omega arith)) (rest 8 (omega arith)) (zero-add (g 7)) (zero-add (g 8));
         bank = λ p. ap (λ (x : ℕ). x % 8) (getD-set-same (u .regs) 6 w 0 (omega arith)) ∙ or-mod v 248 3 ∙ or-zero-r (v % 8) ∙ e .0;
       }

@@ -8,8 +8,8 @@ use Rattle.image.proofs.Packed.{open-pack, pack-bytes}
 use Rattle.image.proofs.Unpacked.{pack-opened}
 use Rattle.claims.specs.Calls.{Held, Memories, Call, next, after, Each, Threaded}
 use Rattle.claims.specs.SavedMachine.{RoundTrips, Opens, EveryStateOpens}
-use Rattle.claims.proofs.Sound.{sound-fresh}
-use Rattle.claims.proofs.Valid.{sound-well, sound-typed}
+use Rattle.image.proofs.Sound.{sound-fresh}
+use Rattle.image.proofs.Valid.{sound-well, sound-typed}
 use Rattle.claims.proofs.States.{St, Good, held}
 use Rattle.claims.proofs.Walk.{At, each-at, walk}
 

@@ -29,8 +29,8 @@ use Rattle.image.proofs.Packed.{open-pack}
 use Rattle.reu.specs.Exports.{flag}
 use Rattle.claims.specs.Calls.{Held, Memories, setEnabled, triggerFf00, Kind, read, write, cycle, other, NumbersFit, Done, does, grantOf}
 use Rattle.claims.specs.Sessions.{play, answers, grants, shows, eleven, level, begin, ticks, r4, r5, r10, r13, r14, r16, new, enabled, run, Table, Sessions}
-use Rattle.claims.proofs.Sound.{Sound, sound-fresh, sound-connected}
-use Rattle.claims.proofs.Valid.{sound-well, sound-typed}
+use Rattle.image.proofs.Sound.{Sound, sound-fresh, sound-connected}
+use Rattle.image.proofs.Valid.{sound-well, sound-typed}
 use Rattle.claims.proofs.Accepted.{bus-action-is, debug-is}
 use Rattle.claims.proofs.States.{St, Good, held, stepOf, valueOf, does-is, leaves-is, good-step}
 

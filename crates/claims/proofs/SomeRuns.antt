@@ -8,6 +8,7 @@ use mathlib.Core.Logic.{inr}
 use mathlib.Core.List.{List, [], _∷_, _++_, map}
 use lib.Dec.{eqb}
 use native.Mathlib.Omega.{arith}
+use Rattle.controller.specs.Bytes.{bitOf}
 use Rattle.controller.specs.declared.timing.ReuBusAction.{ReuBusAction}
 use Rattle.controller.specs.declared.dma.Dma.the-variants.{Idle}
 use Rattle.controller.specs.Reu.{reg}
@@ -24,10 +25,10 @@ use Rattle.reu.specs.Exports.{refusalUnit}
 use Rattle.claims.specs.Calls.{Held, Memories, Kind, read, write, cycle, NumbersFit, grantOf, Call, Fits, leaves, accepts, next, after, Each, All, count}
 use Rattle.claims.specs.SwapTwice.{byte, IsIdle, Start, Step, cycles, reads, writes, AnyStep, NoWrite, register, writesTo, wrote, High, Run, OfBlock, swaps, Rewrites, Ended, OnceEnded, Parts, listOf, atRestart, RunA, RunB}
 use Rattle.claims.proofs.RegisterLaw.{Value, Seven, two, three, four, five, six, seven, eight, is-seven}
-use Rattle.claims.proofs.Sound.{sound-connected}
-use Rattle.claims.proofs.Valid.{sound-bytes, sound-well, sound-typed}
+use Rattle.image.proofs.Sound.{sound-connected}
+use Rattle.image.proofs.Valid.{sound-bytes, sound-well, sound-typed}
 use Rattle.claims.proofs.States.{St, Good, held, on, stepOf, valueOf, leaves-is, good-step, is-accepted, bit-small}
-use Rattle.claims.proofs.Walk.{widen, bit1, written-at, next-is}
+use Rattle.claims.proofs.Walk.{widen, written-at, next-is}
 use Rattle.claims.proofs.Look.{present-byte, debug-value, Idling, opened, opened-good, opened-is, opened-idling}
 use Rattle.claims.proofs.Swap.{Allowed, idle-high, granted-bit, len-of, SwapFrom, over-from, ended-from, granted-from, step-from, begins}
 
@@ -42,7 +43,7 @@ some-start m s mem =
       accepted =
           ap (λ (o : Opened). o .refusal)
           (open-pack (connected newReu) (sound-typed (connected newReu) sound-connected) (sound-well (connected newReu) sound-connected));
-      reu-unfixed = refl;
+      exp-unfixed = refl;
       c64-unfixed = refl;
       attached = refl;
       unarmed = refl;
@@ -119,7 +120,7 @@ plain-cycle x =
     record {
       small = bit-small (runReuCycle (x .u) (x .m) (x .s) true true 0 false .0 .flag);
       numbers = (omega arith, omega arith, omega arith, omega arith);
-      high = (omega arith, refl, omega arith);
+      high = (omega arith, omega arith);
       kind = cycles;
     }
 
@@ -155,7 +156,7 @@ AllOfBlock (r ∷ rs) = OfBlock r × AllOfBlock rs
 -- how often r stands in a list
 abbrev times : ℕ → List ℕ → ℕ
 times r [] = 0
-times r (q ∷ qs) = bit1 (eqb q r) + times r qs
+times r (q ∷ qs) = bitOf (eqb q r) + times r qs
 
 once : {r : ℕ} → Seven r → times r the-seven ≡ 1
 once two = refl
@@ -175,7 +176,7 @@ count-append : (f : Call → Bool) (p q : List Call) → count f (p ++ q) ≡ co
 count-append f [] q = sym (zero-add (count f q))
 count-append f (c ∷ p) q = let h = count-append f p q in omega arith
 
-and-false : (b : Bool) → bit1 (b && false) ≡ 0
+and-false : (b : Bool) → bitOf (b && false) ≡ 0
 and-false true = refl
 and-false false = refl
 
@@ -193,8 +194,8 @@ writes-count W small (q ∷ rs) al r x g =
     let o = plain-write x q (W q) (omega arith) (small q) in
     let h = writes-count W small rs (al .1) r (stepOf (write q (W q)) x) (good-step x g (write q (W q)) (o .numbers)) in
     let same : register q ≡ q = omega arith in
-    let one : bit1 (wrote r (on x (write q (W q)))) ≡ bit1 (eqb q r)
-    = written-at r (on x (write q (W q))) (is-accepted x g (write q (W q)) (o .small)) ∙ ap (λ (i : ℕ). bit1 (eqb i r)) same in
+    let one : bitOf (wrote r (on x (write q (W q)))) ≡ bitOf (eqb q r)
+    = written-at r (on x (write q (W q))) (is-accepted x g (write q (W q)) (o .small)) ∙ ap (λ (i : ℕ). bitOf (eqb i r)) same in
     omega arith
 
 -- ---- a swap to its end, and the seven writes
@@ -231,8 +232,8 @@ module _ (x : St) (good : Good x) (idl : Idling x) where
   swap-cycle : (k : ℕ) (g : ℕ → ℕ) (y : St) → Good y → SwapFrom x good k g y → k < 2 * n → SwapFrom x good (suc k) g (stepOf high-cycle y)
   swap-cycle k g y gy pr lt =
       let o = plain-cycle y in
-      let gr : bit1 (eqb (grantOf high-cycle (held y)) 2) ≡ 1
-      = granted-bit y gy 1 0 0 1 ∙ ap (λ (q : ReuBusAction). bit1 (eqb (actionNumber q) 2)) (granted-from x good k g y 0 gy pr lt) in
+      let gr : bitOf (eqb (grantOf high-cycle (held y)) 2) ≡ 1
+      = granted-bit y gy 1 0 0 1 ∙ ap (λ (q : ReuBusAction). bitOf (eqb (actionNumber q) 2)) (granted-from x good k g y 0 gy pr lt) in
       subst₂ (λ (q : ℕ) (f : ℕ → ℕ). SwapFrom x good q f (stepOf high-cycle y)) (omega arith) (fun-ext (λ r. zero-add (g r)))
       (step-from x good k g y high-cycle gy (o .numbers) (o .high, cycles) pr)
 
@@ -259,8 +260,8 @@ module _ (x : St) (good : Good x) (idl : Idling x) where
       let shown : Rewrites (held x) r (W r)
       = (omega arith, inr (sym (debug-value x good r (omega arith)) ∙ ap (reuDebugRegister (held x .image)) (sym same))) in
       let next-pr = step-from x good k g y d gy (o .numbers) (tt, writes (ended, allowed)) pr in
-      let rest = writes-trace rs (al .1) k (λ i. bit1 (writesTo i d) + g i) (stepOf d y) (good-step y gy d (o .numbers))
-      (subst (λ (q : ℕ). SwapFrom x good q (λ i. bit1 (writesTo i d) + g i) (stepOf d y)) (zero-add k) next-pr) all in
+      let rest = writes-trace rs (al .1) k (λ i. bitOf (writesTo i d) + g i) (stepOf d y) (good-step y gy d (o .numbers))
+      (subst (λ (q : ℕ). SwapFrom x good q (λ i. bitOf (writesTo i d) + g i) (stepOf d y)) (zero-add k) next-pr) all in
       (more o (writes (ended, shown)) (rest .0), rest .1)
 
   swapped : Trace OnlyCycles x₂ (cycles-from (2 * n) x₂) (cycles-end (2 * n) x₂) × SwapFrom x good (2 * n + 0) (λ r. 0) (cycles-end (2 * n) x₂)

@@ -24,7 +24,7 @@ use Rattle.image.specs.Valid.{Bytes}
 use Rattle.reu.specs.Exports.{flag}
 use Rattle.controller.specs.Constants.{busSize, storageSize}
 use Rattle.claims.specs.Calls.{Held, Other, new, reset, setEnabled, storagePresent, capacityBytes, triggerFf00, dmaActive, busAction, cpuReady, debugRegister, c64Access, tickDma, Kind, read, write, cycle, other, NumbersFit, Done, onImage, onStorage, onBoth, looked, doesOther, does, Call, accepts}
-use Rattle.claims.proofs.Sound.{Sound, SoundPair, SoundTick, sound-fresh, sound-trigger, sound-read, sound-write, sound-ready, sound-grant, sound-enabled, sound-tick-dma, sound-cycle}
+use Rattle.image.proofs.Sound.{Sound, SoundPair, SoundTick, sound-fresh, sound-trigger, sound-read, sound-write, sound-ready, sound-grant, sound-enabled, sound-tick-dma, sound-cycle}
 use Rattle.claims.proofs.Accepted.{new-is, reset-is, set-enabled-is, storage-present-is, capacity-is, trigger-is, read-is, write-is, dma-active-is, bus-action-is, cpu-ready-is, debug-is, c64-access-is, tick-is, cycle-is}
 
 -- a controller with its bus and storage

@@ -15,7 +15,8 @@ use Rattle.controller.specs.declared.reu.Reu.{Reu}
 use Rattle.controller.specs.declared.dma.Dma.the-variants.{Idle}
 use Rattle.controller.specs.declared.timing.ReuBusAction.{ReuBusAction}
 use Rattle.controller.specs.declared.timing.ReuBusAction.the-variants.{Cpu, Transfer}
-use Rattle.controller.specs.Bytes.{word}
+use Rattle.controller.specs.Bytes.{word, bitOf, long}
+use Rattle.controller.proofs.Bits.{bit-one}
 use Rattle.controller.specs.Reu.{reg, withDma}
 use Rattle.controller.specs.Registers.{readRegister, writeRegister}
 use Rattle.controller.specs.Dma.{lengthOf}
@@ -26,14 +27,13 @@ use Rattle.controller.specs.Calls.{actionNumber}
 use Rattle.reu.specs.Exports.{flag}
 use Rattle.claims.specs.Calls.{Held, Kind, cycle, NumbersFit, grantOf, Call}
 use Rattle.claims.specs.SwapTwice.{Step, cycles, reads, writes, register, writesTo, High, OfBlock, SwapsAtOnce, swaps, Ended, OnceEnded}
-use Rattle.claims.proofs.Sound.{length-range}
+use Rattle.image.proofs.Sound.{length-range}
 use Rattle.claims.proofs.CycleLaw.{Reading, Writing, Quiet, Kept, ReadStep, WriteStep, LastStep, IdleStep, read-step, write-step, last-step, idle-step, quiet-step}
 use Rattle.claims.proofs.RegisterLaw.{Begun, start-law, Rewritten, rewritten-none, rewritten-keep, Value, rewrite-law, read-law, read-stays-quiet}
 use Rattle.claims.proofs.Exchange.{Exch, exch-zero, exch-next}
 use Rattle.claims.proofs.Accepted.{bus-action-is}
 use Rattle.claims.proofs.States.{St, Good, held, on, ofTicked, stepOf}
 use Rattle.claims.proofs.Look.{ended-reg, reg-ended, Idling}
-use Rattle.claims.proofs.Walk.{bit1}
 
 abbrev pub onBus : ℕ → ℕ → ℕ
 onBus c i = (c + i) % 65536
@@ -69,18 +69,18 @@ flag-high h ne = ap not (ne-eqb h 0 ne)
 pub idle-high : (x : St) (h n l p : ℕ) → High (cycle h n l p) → x .u .dma ≡ Idle
     → IdleStep (x .u) (x .m) (x .s) (runReuCycle (x .u) (x .m) (x .s) (flag h) (flag p) n (flag l))
 idle-high x h n l p hi e =
-    subst₂ (λ (b q : Bool). IdleStep (x .u) (x .m) (x .s) (runReuCycle (x .u) (x .m) (x .s) b q n (flag l))) (sym (flag-high h (hi .0))) (sym (flag-high p (hi .2)))
+    subst₂ (λ (b q : Bool). IdleStep (x .u) (x .m) (x .s) (runReuCycle (x .u) (x .m) (x .s) b q n (flag l))) (sym (flag-high h (hi .0))) (sym (flag-high p (hi .1)))
     (idle-step (x .u) e (x .m) (x .s) n (flag l))
 
 -- whether a cycle is granted is what its action says
 pub granted-bit : (x : St) → Good x → (h i l p : ℕ)
-    → bit1 (eqb (grantOf (cycle h i l p) (held x)) 2) ≡ bit1 (eqb (actionNumber (busAction (x .u) (x .s) (flag h) (flag p) i .0 .action)) 2)
+    → bitOf (eqb (grantOf (cycle h i l p) (held x)) 2) ≡ bitOf (eqb (actionNumber (busAction (x .u) (x .s) (flag h) (flag p) i .0 .action)) 2)
 granted-bit x g h i l p =
-    ap (λ (y : ℕ × List ℕ × List ℕ). bit1 (eqb (y .0) 2)) (bus-action-is (x .u) (g .sound) (x .s) (g .storage-size) h p i)
+    ap (λ (y : ℕ × List ℕ × List ℕ). bitOf (eqb (y .0) 2)) (bus-action-is (x .u) (g .sound) (x .s) (g .storage-size) h p i)
 
 kept-of : (u w : Reu) → u .dma ≡ Idle → Kept (withDma u Idle) w → Kept u w
 kept-of u w e k =
-    record { regs = k .regs; c64 = k .c64; reu = k .reu; len = k .len; attached = k .attached; dma = k .dma ∙ sym e }
+    record { regs = k .regs; c64 = k .c64; exp = k .exp; len = k .len; attached = k .attached; dma = k .dma ∙ sym e }
 
 -- ---- progress
 
@@ -184,10 +184,10 @@ module _ (W : ℕ → ℕ) (c e n : ℕ) (few : n ≤ 65536) (m₀ s₀ : List �
       (over ek (sq .quiet) (rewritten-keep W g g (x .u) _ (kept-of (x .u) _ (q .idle) (st .kept)) (λ r. refl) re) (rw (st .bus, st .storage) ex)
       (ap (λ (v : ℕ). v / 128 % 2) (st .kept .regs 1 (omega arith)) ∙ ended) (ap (λ (v : ℕ). v / 64) (st .kept .regs 10 (omega arith)) ∙ free))
 
-  counted : (k : ℕ) (g : ℕ → ℕ) (t : Ticked) (a : ReuBusAction) → Cycled k g t a → Progress (bit1 (eqb (actionNumber a) 2) + k) g (ofTicked t)
-  counted k g t a (moves e p) = subst (λ (q : ReuBusAction). Progress (bit1 (eqb (actionNumber q) 2) + k) g (ofTicked t)) (sym e) p
+  counted : (k : ℕ) (g : ℕ → ℕ) (t : Ticked) (a : ReuBusAction) → Cycled k g t a → Progress (bitOf (eqb (actionNumber a) 2) + k) g (ofTicked t)
+  counted k g t a (moves e p) = subst (λ (q : ReuBusAction). Progress (bitOf (eqb (actionNumber q) 2) + k) g (ofTicked t)) (sym e) p
   counted k g t a (rests e ek p) =
-      subst (λ (q : ReuBusAction). Progress (bit1 (eqb (actionNumber q) 2) + k) g (ofTicked t)) (sym e)
+      subst (λ (q : ReuBusAction). Progress (bitOf (eqb (actionNumber q) 2) + k) g (ofTicked t)) (sym e)
       (subst (λ (q : ℕ). Progress q g (ofTicked t)) (sym (zero-add k)) p)
 
   until : (k : ℕ) (g : ℕ → ℕ) (t : Ticked) (a : ReuBusAction) → k < 2 * n → Cycled k g t a → a ≡ Transfer
@@ -219,7 +219,7 @@ module _ (W : ℕ → ℕ) (c e n : ℕ) (few : n ≤ 65536) (m₀ s₀ : List �
   -- any call that may come
   pub step : (k : ℕ) (g : ℕ → ℕ) (x : St) {d : Kind} → Good x → NumbersFit d → High d
       → Step (Ended (held x)) (λ a v. Ended (held x) × Allowed W a v) d → Progress k g x
-      → Progress (bit1 (eqb (grantOf d (held x)) 2) + k) (λ r. bit1 (writesTo r d) + g r) (stepOf d x)
+      → Progress (bitOf (eqb (grantOf d (held x)) 2) + k) (λ r. bitOf (writesTo r d) + g r) (stepOf d x)
   step k g x good fi hi (reads {address = a} en) pr =
       let o = over-of k g x good pr en in
       let ke = read-law (x .u) a in
@@ -235,7 +235,7 @@ module _ (W : ℕ → ℕ) (c e n : ℕ) (few : n ≤ 65536) (m₀ s₀ : List �
       subst₂ (λ (q : ℕ) (f : ℕ → ℕ). Progress (q + k) f (stepOf (cycle h i l p) x)) (sym (granted-bit x good h i l p)) (fun-ext (λ r. sym (zero-add (g r))))
       (counted k g _ _
       (subst₂ (λ (b q : Bool). Cycled k g (runReuCycle (x .u) (x .m) (x .s) b q i (flag l)) (busAction (x .u) (x .s) b q i .0 .action))
-      (sym (flag-high h (hi .0))) (sym (flag-high p (hi .2))) (cycled k g x (flag l) i good pr)))
+      (sym (flag-high h (hi .0))) (sym (flag-high p (hi .1))) (cycled k g x (flag l) i good pr)))
 
   -- before it is over each cycle is granted
   pub granted-until : (k : ℕ) (g : ℕ → ℕ) (x : St) (i : ℕ) → Good x → Progress k g x → k < 2 * n
@@ -247,8 +247,8 @@ module _ (W : ℕ → ℕ) (c e n : ℕ) (few : n ≤ 65536) (m₀ s₀ : List �
 abbrev pub c64-of : Reu → ℕ
 c64-of u = word (reg u 2) (reg u 3)
 
-abbrev pub reu-of : Reu → ℕ
-reu-of u = reg u 6 * 65536 + word (reg u 4) (reg u 5)
+abbrev pub exp-of : Reu → ℕ
+exp-of u = long (reg u 4) (reg u 5) (reg u 6)
 
 abbrev pub len-of : Reu → ℕ
 len-of u = lengthOf (word (reg u 7) (reg u 8))
@@ -269,41 +269,41 @@ module _ (x : St) (good : Good x) where
 
   -- what a swap from x has come to, and once it is over
   abbrev pub SwapFrom : ℕ → (ℕ → ℕ) → St → Type 0
-  SwapFrom = Progress (reg (x .u)) (c64-of (x .u)) (reu-of (x .u)) (len-of (x .u)) few (x .m) (x .s) (good .bus-size) (good .storage-size)
+  SwapFrom = Progress (reg (x .u)) (c64-of (x .u)) (exp-of (x .u)) (len-of (x .u)) few (x .m) (x .s) (good .bus-size) (good .storage-size)
 
   abbrev pub OverFrom : ℕ → (ℕ → ℕ) → St → Type 0
-  OverFrom = Over (reg (x .u)) (c64-of (x .u)) (reu-of (x .u)) (len-of (x .u)) few (x .m) (x .s) (good .bus-size) (good .storage-size)
+  OverFrom = Over (reg (x .u)) (c64-of (x .u)) (exp-of (x .u)) (len-of (x .u)) few (x .m) (x .s) (good .bus-size) (good .storage-size)
 
   pub over-from : (k : ℕ) (g : ℕ → ℕ) (y : St) → Good y → SwapFrom k g y → Ended (held y) → OverFrom k g y
-  over-from = over-of (reg (x .u)) (c64-of (x .u)) (reu-of (x .u)) (len-of (x .u)) few (x .m) (x .s) (good .bus-size) (good .storage-size)
+  over-from = over-of (reg (x .u)) (c64-of (x .u)) (exp-of (x .u)) (len-of (x .u)) few (x .m) (x .s) (good .bus-size) (good .storage-size)
 
   pub ended-from : (k : ℕ) (g : ℕ → ℕ) (y : St) → Good y → SwapFrom k g y → k ≡ 2 * len-of (x .u) → Ended (held y)
-  ended-from = ended-of (reg (x .u)) (c64-of (x .u)) (reu-of (x .u)) (len-of (x .u)) few (x .m) (x .s) (good .bus-size) (good .storage-size)
+  ended-from = ended-of (reg (x .u)) (c64-of (x .u)) (exp-of (x .u)) (len-of (x .u)) few (x .m) (x .s) (good .bus-size) (good .storage-size)
 
   pub granted-from : (k : ℕ) (g : ℕ → ℕ) (y : St) (i : ℕ) → Good y → SwapFrom k g y → k < 2 * len-of (x .u)
       → busAction (y .u) (y .s) true true i .0 .action ≡ Transfer
-  granted-from = granted-until (reg (x .u)) (c64-of (x .u)) (reu-of (x .u)) (len-of (x .u)) few (x .m) (x .s) (good .bus-size) (good .storage-size)
+  granted-from = granted-until (reg (x .u)) (c64-of (x .u)) (exp-of (x .u)) (len-of (x .u)) few (x .m) (x .s) (good .bus-size) (good .storage-size)
 
   pub step-from : (k : ℕ) (g : ℕ → ℕ) (y : St) (d : Kind) → Good y → NumbersFit d → Swapping x (held y) (on y d) → SwapFrom k g y
-      → SwapFrom (bit1 (eqb (grantOf d (held y)) 2) + k) (λ r. bit1 (writesTo r d) + g r) (stepOf d y)
+      → SwapFrom (bitOf (eqb (grantOf d (held y)) 2) + k) (λ r. bitOf (writesTo r d) + g r) (stepOf d y)
   step-from k g y d gy fi p =
-      step (reg (x .u)) (c64-of (x .u)) (reu-of (x .u)) (len-of (x .u)) few (x .m) (x .s) (good .bus-size) (good .storage-size)
+      step (reg (x .u)) (c64-of (x .u)) (exp-of (x .u)) (len-of (x .u)) few (x .m) (x .s) (good .bus-size) (good .storage-size)
       k g y gy fi (p .0) (p .1)
 
   -- the start
   pub begins : Idling x → {d : Kind} → SwapsAtOnce d → SwapFrom 0 (λ r. 0) (stepOf d x)
   begins i (swaps {address = a} {value = v} one type now go) =
-      let go′ : v / 128 % 2 ≡ 1 = eqb-true (v / 128 % 2) 1 go in
+      let go′ : v / 128 % 2 ≡ 1 = bit-one v 7 go in
       let b : Begun (x .u) v (writeRegister (x .u) a v)
-      = start-law (x .u) v (good .sound .regs .len) (i .attached) (i .free) type (eqb-true (v / 16 % 2) 1 now) go′ a one in
+      = start-law (x .u) v (good .sound .regs .len) (i .attached) (i .free) type now go a one in
       let small : word (reg (x .u) 2) (reg (x .u) 3) < 65536 = small-word 2 3 in
       let small′ : word (reg (x .u) 4) (reg (x .u) 5) < 65536 = small-word 4 5 in
       let bank : reg (x .u) 6 < 256 = good .sound .regs .bytes 6 in
       let ec : c64-of (x .u) ≡ onBus (c64-of (x .u)) 0 = omega arith in
-      let ee : reu-of (x .u) ≡ (reu-of (x .u) + 0) % 16777216 = omega arith in
+      let ee : exp-of (x .u) ≡ (exp-of (x .u) + 0) % 16777216 = omega arith in
       let er : len-of (x .u) ≡ len-of (x .u) - 0 = omega arith in
       reading 0 (length-range (word (reg (x .u) 7) (reg (x .u) 8)) (small-word 7 8) .0) refl (λ r. refl)
-      (subst (λ (q : ℕ). Reading (writeRegister (x .u) a v) (onBus (c64-of (x .u)) 0) ((reu-of (x .u) + 0) % 16777216) q) er
+      (subst (λ (q : ℕ). Reading (writeRegister (x .u) a v) (onBus (c64-of (x .u)) 0) ((exp-of (x .u) + 0) % 16777216) q) er
       (subst₂ (λ (q q′ : ℕ). Reading (writeRegister (x .u) a v) q q′ (len-of (x .u))) ec ee (b .reading)))
-      (exch-zero (onBus (c64-of (x .u))) (onStorage (reu-of (x .u))) (x .m) (x .s))
+      (exch-zero (onBus (c64-of (x .u))) (onStorage (exp-of (x .u))) (x .m) (x .s))
       (ap (λ (q : ℕ). q / 128 % 2) (b .command) ∙ go′) (ap (λ (q : ℕ). q / 64) (b .control) ∙ i .free)

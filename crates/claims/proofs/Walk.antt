@@ -6,6 +6,7 @@ use mathlib.Core.Path.{_≡_, refl, sym, ap, _∙_, subst, fun-ext}
 use mathlib.Core.List.{List, [], _∷_, _++_}
 use lib.Dec.{eqb}
 use native.Mathlib.Omega.{arith}
+use Rattle.controller.specs.Bytes.{bitOf}
 use Rattle.claims.specs.Calls.{Held, Kind, NumbersFit, does, grantOf, Call, Fits, leaves, accepts, next, after, Each, All, count, Threaded}
 use Rattle.claims.specs.SwapTwice.{Step, cycles, reads, writes, writesTo, wrote, granted}
 use Rattle.claims.proofs.States.{St, Good, held, on, stepOf, leaves-is, good-step}
@@ -59,27 +60,24 @@ pub next-is : (x : St) (c : Call) → Good x → accepts c ≡ true → c .lent 
 next-is x c good ok le =
     ap (λ (b : Bool). cond b (leaves c) (held x)) ok ∙ (λ i. does (c .kind) (le i) .left) ∙ leaves-is x good (c .kind)
 
-abbrev pub bit1 : Bool → ℕ
-bit1 b = cond b 1 0
-
 -- what is counted of an accepted call that is lent what is held, and of a refused one
-granted-at : (x : St) (c : Call) → accepts c ≡ true → c .lent ≡ held x → bit1 (granted c) ≡ bit1 (eqb (grantOf (c .kind) (held x)) 2)
-granted-at x c ok le = λ i. bit1 (ok i && eqb (grantOf (c .kind) (le i)) 2)
+granted-at : (x : St) (c : Call) → accepts c ≡ true → c .lent ≡ held x → bitOf (granted c) ≡ bitOf (eqb (grantOf (c .kind) (held x)) 2)
+granted-at x c ok le = λ i. bitOf (ok i && eqb (grantOf (c .kind) (le i)) 2)
 
-pub written-at : (r : ℕ) (c : Call) → accepts c ≡ true → bit1 (wrote r c) ≡ bit1 (writesTo r (c .kind))
-written-at r c ok = λ i. bit1 (ok i && writesTo r (c .kind))
+pub written-at : (r : ℕ) (c : Call) → accepts c ≡ true → bitOf (wrote r c) ≡ bitOf (writesTo r (c .kind))
+written-at r c ok = λ i. bitOf (ok i && writesTo r (c .kind))
 
-refused-granted : (c : Call) → accepts c ≡ false → bit1 (granted c) ≡ 0
-refused-granted c e = λ i. bit1 (e i && eqb (grantOf (c .kind) (c .lent)) 2)
+refused-granted : (c : Call) → accepts c ≡ false → bitOf (granted c) ≡ 0
+refused-granted c e = λ i. bitOf (e i && eqb (grantOf (c .kind) (c .lent)) 2)
 
-refused-written : (r : ℕ) (c : Call) → accepts c ≡ false → bit1 (wrote r c) ≡ 0
-refused-written r c e = λ i. bit1 (e i && writesTo r (c .kind))
+refused-written : (r : ℕ) (c : Call) → accepts c ≡ false → bitOf (wrote r c) ≡ 0
+refused-written r c e = λ i. bitOf (e i && writesTo r (c .kind))
 
 -- ---- the walk
 
 module _ (I : ℕ → (ℕ → ℕ) → St → Type 0) (P : Held → Call → Type 0)
     (step : (k : ℕ) (g : ℕ → ℕ) (x : St) (d : Kind) → Good x → NumbersFit d → P (held x) (on x d) → I k g x
-    → I (bit1 (eqb (grantOf d (held x)) 2) + k) (λ r. bit1 (writesTo r d) + g r) (stepOf d x)) where
+    → I (bitOf (eqb (grantOf d (held x)) 2) + k) (λ r. bitOf (writesTo r d) + g r) (stepOf d x)) where
   -- where a list of calls leads
   pub record Walked (x : St) (cs : List Call) (k : ℕ) (g : ℕ → ℕ) : Type 0 where
     pub to : St
@@ -91,8 +89,8 @@ module _ (I : ℕ → (ℕ → ℕ) → St → Type 0) (P : Held → Call → Ty
   adjust k k′ g g′ x e f h = subst (λ (j : ℕ). I j g′ x) e (subst (λ (j : ℕ → ℕ). I k j x) (fun-ext f) h)
 
   -- one call before the others: d is counted as granted, f r as a write to r
-  before : (x y : St) (c : Call) (cs : List Call) (k d : ℕ) (g f : ℕ → ℕ) → next (held x) c ≡ held y → bit1 (granted c) ≡ d
-      → ((r : ℕ) → bit1 (wrote r c) ≡ f r) → Walked y cs (d + k) (λ r. f r + g r) → Walked x (c ∷ cs) k g
+  before : (x y : St) (c : Call) (cs : List Call) (k d : ℕ) (g f : ℕ → ℕ) → next (held x) c ≡ held y → bitOf (granted c) ≡ d
+      → ((r : ℕ) → bitOf (wrote r c) ≡ f r) → Walked y cs (d + k) (λ r. f r + g r) → Walked x (c ∷ cs) k g
   before x y c cs k d g f e ed ef w =
       record {
         to = w .to;
@@ -112,7 +110,7 @@ module _ (I : ℕ → (ℕ → ℕ) → St → Type 0) (P : Held → Call → Ty
       let nx : next (held x) c ≡ held (stepOf (c .kind) x) = next-is x c good ok (a .lent) in
       let holds : P (held x) (on x (c .kind))
       = subst (λ (h : Held). P (held x) (record { kind = c .kind; lent = h })) (a .lent) (a .holds) in
-      before x (stepOf (c .kind) x) c cs k (bit1 (eqb (grantOf (c .kind) (held x)) 2)) g (λ r. bit1 (writesTo r (c .kind))) nx
+      before x (stepOf (c .kind) x) c cs k (bitOf (eqb (grantOf (c .kind) (held x)) 2)) g (λ r. bitOf (writesTo r (c .kind))) nx
       (granted-at x c ok (a .lent)) (λ r. written-at r c ok)
       (rec (stepOf (c .kind) x) _ _ (good-step x good (c .kind) (a .numbers)) (step k g x (c .kind) good (a .numbers) holds i)
       (subst (λ (h : Held). Each (At P) h cs) nx (at .1)))

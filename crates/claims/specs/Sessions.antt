@@ -9,9 +9,10 @@ use lib.ListN.{getD, set}
 use Rattle.controller.specs.declared.timing.ReuBusAction.the-variants.{Hold, Transfer}
 use Rattle.controller.specs.Enable.{newReu}
 use Rattle.controller.specs.Calls.{actionNumber}
-use Rattle.image.specs.Layout.{isBit, packImage}
+use Rattle.image.specs.Layout.{packImage}
+use Rattle.controller.specs.Bytes.{bit}
 use Rattle.reu.specs.Exports.{reuDebugRegister}
-use Rattle.controller.specs.Constants.{status, command, c64Low, c64High, reuLow, reuHigh, reuBank, lengthLow, lengthHigh, interruptMask}
+use Rattle.controller.specs.Constants.{status, command, c64Low, c64High, expLow, expHigh, expBank, lengthLow, lengthHigh, interruptMask}
 use Rattle.claims.specs.Constants.{flagsByte}
 use Rattle.claims.specs.Calls.{Held, Memories, setEnabled, triggerFf00, Kind, read, write, cycle, other, does, grantOf}
 
@@ -40,14 +41,14 @@ eleven h =
     shows h 10 ∷ []
 
 abbrev pub level : Held → Bool
-level h = isBit (getD (h .image) flagsByte 0) 1
+level h = bit (getD (h .image) flagsByte 0) 1
 
 -- ---- scripts
 
 -- the C64 address, the expansion address but for its bank, the length, then COMMAND
 abbrev pub begin : ℕ → ℕ → ℕ → ℕ → List Kind
 begin c e n v =
-    write c64Low (c % 256) ∷ write c64High (c / 256) ∷ write reuLow (e % 256) ∷ write reuHigh (e / 256) ∷ write lengthLow (n % 256) ∷
+    write c64Low (c % 256) ∷ write c64High (c / 256) ∷ write expLow (e % 256) ∷ write expHigh (e / 256) ∷ write lengthLow (n % 256) ∷
     write lengthHigh (n / 256) ∷ write command v ∷ []
 
 -- cycles with BA high
@@ -69,7 +70,7 @@ abbrev pub r13 : List Kind
 r13 = begin 0x10FF 0 1 0x90 ++ ticks 1
 
 abbrev pub r14 : List Kind
-r14 = write reuBank 0xFF ∷ begin 0xFFFF 0xFFFF 2 0x90 ++ ticks 2
+r14 = write expBank 0xFF ∷ begin 0xFFFF 0xFFFF 2 0x90 ++ ticks 2
 
 -- cycles 10 to 14, `ba_high` low only at 10, `ba_high_phi1` low only at 11
 abbrev pub r16 : List Kind
@@ -106,7 +107,7 @@ module _ (m s : List ℕ) where
     -- Store, C64 $2000, length 2, COMMAND $B0, no bank write: afterwards C64 $2000, length 2, COMMAND $30
     pub R5 : eleven (run r5) ≡ 0x50 ∷ 0x30 ∷ 0x00 ∷ 0x20 ∷ 0x00 ∷ 0x00 ∷ 0x00 ∷ 0x02 ∷ 0x00 ∷ 0x1F ∷ 0x3F ∷ []
     -- bank reads $F8 but `debug_register` 6 is $00
-    pub R5-bank : (does (read reuBank) (run r5) .answer ≡ 0xF8) × (shows (run r5) reuBank ≡ 0x00)
+    pub R5-bank : (does (read expBank) (run r5) .answer ≡ 0xF8) × (shows (run r5) expBank ≡ 0x00)
     -- Verify length 3, first byte differs: one tick, STATUS $30, length 2
     pub R6 :
         getD m 0 0 ≢ getD s 0 0
@@ -146,7 +147,7 @@ module _ (m s : List ℕ) where
     -- Store length 2 from $FFFF to $FFFFFF: offsets 524,287 and 0
     pub R14 : (getD (run r14 .storage) 524287 0 ≡ getD m 0xFFFF 0) × (getD (run r14 .storage) 0 0 ≡ getD m 0 0)
     -- C64 $0001, bank latch $00
-    pub R14-shows : (shows (run r14) c64Low ≡ 0x01) × (shows (run r14) c64High ≡ 0x00) × (shows (run r14) reuBank ≡ 0x00)
+    pub R14-shows : (shows (run r14) c64Low ≡ 0x01) × (shows (run r14) c64High ≡ 0x00) × (shows (run r14) expBank ≡ 0x00)
     -- Swap length 1, bus c, storage r (any two bytes): Transfer, Hold, Transfer, Transfer, Transfer
     pub R16 :
         grants r16 (run (begin 0 0 1 0x92))

@@ -10,11 +10,12 @@ use lib.Dec.{eqb}
 use Rattle.controller.specs.declared.timing.ReuBusAction.the-variants.{Transfer}
 use Rattle.controller.specs.Enable.{newReu, connected}
 use Rattle.controller.specs.Calls.{actionNumber}
-use Rattle.image.specs.Layout.{isBit, num2, num3, packImage}
+use Rattle.image.specs.Layout.{packImage}
+use Rattle.controller.specs.Bytes.{bit, word, long}
 use Rattle.image.specs.Open.{openImage}
 use Rattle.image.specs.Valid.{Bytes}
 use Rattle.reu.specs.Exports.{reuRead, reuDebugRegister}
-use Rattle.controller.specs.Constants.{busSize, storageSize, fullLength, status, command, c64Low, c64High, reuLow, reuHigh, reuBank, lengthLow, lengthHigh, addressControl}
+use Rattle.controller.specs.Constants.{busSize, storageSize, fullLength, status, command, c64Low, c64High, expLow, expHigh, expBank, lengthLow, lengthHigh, addressControl}
 use Rattle.claims.specs.Constants.{registerWindow, flagsByte, transferByte}
 use Rattle.claims.specs.Calls.{Held, Memories, Kind, read, write, cycle, other, grantOf, Call, leaves, accepts, next, after, Each, All, count, Threaded}
 
@@ -33,10 +34,10 @@ pub record Start (k : Held) : Type 0 where
   pub memories : Memories (k .bus) (k .storage)
   pub image-bytes : Bytes (k .image)
   pub accepted : openImage (k .image) .refusal ≡ 0
-  pub reu-unfixed : isBit (byte k addressControl) 6 ≡ false
-  pub c64-unfixed : isBit (byte k addressControl) 7 ≡ false
-  pub attached : isBit (byte k flagsByte) 2 ≡ true
-  pub unarmed : isBit (byte k flagsByte) 3 ≡ false
+  pub exp-unfixed : bit (byte k addressControl) 6 ≡ false
+  pub c64-unfixed : bit (byte k addressControl) 7 ≡ false
+  pub attached : bit (byte k flagsByte) 2 ≡ true
+  pub unarmed : bit (byte k flagsByte) 3 ≡ false
   pub idle : IsIdle k
 
 -- ---- the calls of a run
@@ -74,7 +75,7 @@ granted c = accepts c && eqb (grantOf (c .kind) (c .lent)) (actionNumber Transfe
 abbrev pub High : Kind → Type 0
 High (read address) = Unit {0}
 High (write address value) = Unit {0}
-High (cycle high number low phi1) = (high ≢ 0) × (low ≡ 0) × (phi1 ≢ 0)
+High (cycle high number low phi1) = (high ≢ 0) × (phi1 ≢ 0)
 High (other o) = Unit {0}
 
 -- "any list of register reads, writes and cycles, refused ones included", from what k holds
@@ -99,14 +100,14 @@ ShownAll k w = (r : ℕ) → OfBlock r → Shown k r (w r)
 
 -- "byte i, below n, is at C64 address plus i modulo 65,536, its partner at the offset of expansion address plus i"
 abbrev pub busPlace : (ℕ → ℕ) → ℕ → ℕ
-busPlace w i = (num2 (w c64Low) (w c64High) + i) % busSize
+busPlace w i = (word (w c64Low) (w c64High) + i) % busSize
 
 abbrev pub storagePlace : (ℕ → ℕ) → ℕ → ℕ
-storagePlace w i = (num3 (w reuLow) (w reuHigh) (w reuBank) + i) % storageSize
+storagePlace w i = (long (w expLow) (w expHigh) (w expBank) + i) % storageSize
 
 -- "n the length, 65,536 for length 0"
 abbrev pub blockLength : (ℕ → ℕ) → ℕ
-blockLength w = let n = num2 (w lengthLow) (w lengthHigh) in cond (eqb n 0) fullLength n
+blockLength w = let n = word (w lengthLow) (w lengthHigh) in cond (eqb n 0) fullLength n
 
 -- from a to b "each byte of the block has changed places with its partner, .. and no other byte has changed"
 pub record Exchanged (w : ℕ → ℕ) (a b : Held) : Type 0 where
@@ -123,7 +124,7 @@ pub record Exchanged (w : ℕ → ℕ) (a b : Held) : Type 0 where
 -- a write of COMMAND, "type 2 with bits 4 and 7"; bits 2, 3, 5 and 6 are free
 pub data SwapsAtOnce : Kind → Type 0 where
   swaps :
-      {address value : ℕ} → register address ≡ command → value % 4 ≡ 2 → isBit value 4 ≡ true → isBit value 7 ≡ true
+      {address value : ℕ} → register address ≡ command → value % 4 ≡ 2 → bit value 4 ≡ true → bit value 7 ≡ true
       → SwapsAtOnce (write address value)
 
 -- a write of one of the seven "with the value it showed" at k
@@ -132,7 +133,7 @@ Rewrites k address value = OfBlock (register address) × Shown k (register addre
 
 -- bit 7 of COMMAND is clear: "the one that clears COMMAND bit 7 ends the swap"
 abbrev pub Ended : Held → Type 0
-Ended k = isBit (byte k command) 7 ≡ false
+Ended k = bit (byte k command) 7 ≡ false
 
 -- "no accepted call but cycles comes while a swap runs"; then reads, and writes that W allows
 abbrev pub OnceEnded : (ℕ → ℕ → Type 0) → Held → Call → Type 0
