@@ -1,12 +1,12 @@
 -- What each exported call does on the image of a sound controller: it is accepted, and does what the core's definition says.
 use Prim.Native.Nat.{ℕ}
 use native.Mathlib.Nat.{zero-add}
-use mathlib.Core.Bool.{Bool, true, cond}
-use mathlib.Core.Path.{_≡_, refl, ap, _∙_}
+use mathlib.Core.Bool.{Bool, true, false, cond, false≢true}
+use mathlib.Core.Path.{_≡_, refl, sym, ap, _∙_}
 use mathlib.Core.List.{List}
 use lib.ListN.{length}
-use lib.Dec.{eqb}
-use borrow.Author.Tests.{eq-eqb}
+use lib.Dec.{eqb, ltb}
+use borrow.Author.Tests.{eq-eqb, eqb-true}
 use Rattle.controller.specs.declared.reu.Answer.{Answer}
 use Rattle.controller.specs.declared.reu.Reu.{Reu}
 use Rattle.controller.specs.Bytes.{bitOf}
@@ -20,12 +20,12 @@ use Rattle.controller.specs.TickDma.{tickDma}
 use Rattle.controller.specs.Cycle.{runReuCycle}
 use Rattle.controller.specs.Constants.{busSize, storageSize}
 use Rattle.controller.specs.Refusals.{refusalOf, checked}
-use Rattle.controller.specs.Calls.{actionNumber, accessNumber, capacity, answered, refused, call, enabledAnswer, grantedAnswer, tickedAnswer, resetCall, setEnabledCall, storagePresentCall, capacityBytesCall, triggerCall, readCall, writeCall, dmaActiveCall, busActionCall, cpuReadyCall, debugRegisterCall, c64AccessCall, tickCall, cycleCall}
+use Rattle.controller.specs.Calls.{actionNumber, accessNumber, capacity, answered, refused, call, callStorage, callBoth, enabledAnswer, grantedAnswer, tickedAnswer, resetCall, setEnabledCall, storagePresentCall, capacityBytesCall, triggerCall, readCall, writeCall, dmaActiveCall, busActionCall, cpuReadyCall, debugRegisterCall, c64AccessCall, tickCall, cycleCall}
 use Rattle.image.specs.declared.Opened.{Opened}
 use Rattle.image.specs.Layout.{imageSize, packImage}
 use Rattle.image.specs.Open.{openImage}
 use Rattle.image.proofs.Packed.{open-pack, pack-long}
-use Rattle.reu.specs.Exports.{flag, refusal, code, imageAfter, look, changed, change, changedStorage, changeStorage, changedBoth, changeBoth, reuNew, reuReset, reuSetEnabled, reuStoragePresent, reuCapacityBytes, reuTriggerFf00, reuRead, reuWrite, reuDmaActive, reuBusAction, reuCpuReady, reuDebugRegister, reuC64Access, reuTickDma, reuCycle}
+use Rattle.reu.specs.Exports.{flag, refusalUnit, refusal, code, imageAfter, look, changed, change, changedStorage, changeStorage, changedBoth, changeBoth, reuNew, reuReset, reuSetEnabled, reuStoragePresent, reuCapacityBytes, reuTriggerFf00, reuRead, reuWrite, reuDmaActive, reuBusAction, reuCpuReady, reuDebugRegister, reuC64Access, reuTickDma, reuCycle}
 use Rattle.image.proofs.Sound.{Sound}
 use Rattle.image.proofs.Valid.{sound-well, sound-typed}
 
@@ -75,6 +75,46 @@ module _ (u : Reu) (sound : Sound u) where
   both-is f m s v w b t e =
       ap (λ (o : Opened). checked (o .refusal) (λ n. (refusal n, packImage u, m, s)) (changedBoth (f (o .reu) m s) (packImage u))) opened
       ∙ ap (λ (a : Answer × List ℕ × List ℕ). changedBoth a (packImage u)) e ∙ (λ i. (accepted-code v w i, packImage w, b, t))
+
+  -- ---- a bus or a storage of another length is refused, so an accepted call was lent none
+
+  module _ (f : Reu → List ℕ → (Answer × List ℕ)) (s : List ℕ) (d : Answer × List ℕ) (e : f u s ≡ callStorage u s d)
+      (ok : ltb (changeStorage f (packImage u) s .0) refusalUnit ≡ true) where
+    storage-answer : (b : Bool) → eqb (length s) storageSize ≡ b
+        → changeStorage f (packImage u) s .0 ≡ code (checked {A = Answer × List ℕ} (cond b 0 4) (λ n. (refused u n, s)) d .0)
+    unfolding changeStorage checked refusalOf
+    storage-answer b h =
+        ap (λ (o : Opened). checked {A = ℕ × List ℕ × List ℕ} (o .refusal) (λ n. (refusal n, packImage u, s)) (changedStorage (f (o .reu) s) (packImage u)) .0) opened
+        ∙ ap (λ (a : Answer × List ℕ). code (a .0)) e
+        ∙ (λ i. code (checked {A = Answer × List ℕ} (cond (sound-well u sound i) (cond (h i) 0 4) 2) (λ n. (refused u n, s)) d .0))
+
+    pub storage-length : length s ≡ storageSize
+    unfolding checked code
+    storage-length = go (eqb (length s) storageSize) refl
+      where
+        go : (b : Bool) → eqb (length s) storageSize ≡ b → length s ≡ storageSize
+        go true h = eqb-true (length s) storageSize h
+        go false h = absurd (false≢true (sym (ap (λ (n : ℕ). ltb n refusalUnit) (storage-answer false h)) ∙ ok))
+
+  module _ (f : Reu → List ℕ → List ℕ → (Answer × List ℕ × List ℕ)) (m s : List ℕ) (d : Answer × List ℕ × List ℕ)
+      (e : f u m s ≡ callBoth u m s d) (ok : ltb (changeBoth f (packImage u) m s .0) refusalUnit ≡ true) where
+    both-answer : (a b : Bool) → eqb (length m) busSize ≡ a → eqb (length s) storageSize ≡ b
+        → changeBoth f (packImage u) m s .0
+        ≡ code (checked {A = Answer × List ℕ × List ℕ} (cond a (cond b 0 4) 3) (λ n. (refused u n, m, s)) d .0)
+    unfolding changeBoth checked refusalOf
+    both-answer a b g h =
+        ap (λ (o : Opened). checked {A = ℕ × List ℕ × List ℕ × List ℕ} (o .refusal) (λ n. (refusal n, packImage u, m, s)) (changedBoth (f (o .reu) m s) (packImage u)) .0) opened
+        ∙ ap (λ (x : Answer × List ℕ × List ℕ). code (x .0)) e
+        ∙ (λ i. code (checked {A = Answer × List ℕ × List ℕ} (cond (sound-well u sound i) (cond (g i) (cond (h i) 0 4) 3) 2) (λ n. (refused u n, m, s)) d .0))
+
+    pub both-lengths : (length m ≡ busSize) × (length s ≡ storageSize)
+    unfolding checked code
+    both-lengths = go (eqb (length m) busSize) (eqb (length s) storageSize) refl refl
+      where
+        go : (a b : Bool) → eqb (length m) busSize ≡ a → eqb (length s) storageSize ≡ b → (length m ≡ busSize) × (length s ≡ storageSize)
+        go true true g h = (eqb-true (length m) busSize g, eqb-true (length s) storageSize h)
+        go true false g h = absurd (false≢true (sym (ap (λ (n : ℕ). ltb n refusalUnit) (both-answer true false g h)) ∙ ok))
+        go false b g h = absurd (false≢true (sym (ap (λ (n : ℕ). ltb n refusalUnit) (both-answer false b g h)) ∙ ok))
 
   -- ---- the calls
 

@@ -1,5 +1,4 @@
 -- The saved machine: packing and opening are each other's inverse, and every state reached from new can be packed and opened.
---
 use Prim.Native.Nat.{ℕ}
 use mathlib.Core.Bool.{true}
 use mathlib.Core.Path.{_≡_}
@@ -10,7 +9,7 @@ use Rattle.controller.specs.Refusals.{wellFormed}
 use Rattle.image.specs.Layout.{packImage}
 use Rattle.image.specs.Open.{openImage}
 use Rattle.image.specs.Valid.{Bytes, Typed}
-use Rattle.claims.specs.Calls.{Held, Memories, Call, after, Threaded}
+use Rattle.claims.specs.Calls.{Held, Call, Fits, leaves, accepts, after, Each, All}
 
 pub record RoundTrips : Type 0 where
   -- a controller whose fields fit their types and that passes the test is packed as an image that opens as it
@@ -26,8 +25,16 @@ pub record Opens (image : List ℕ) : Type 0 where
   pub opened : openImage image ≡ record { refusal = 0; reu = reu }
   pub bytes : Bytes image
 
--- any list of any of the fifteen calls from new, refused ones included
+-- Calls made one after another on one image. A bus and a storage are lent anew at each call: the host writes them between calls as it
+-- likes, or hands others, of any lengths. A refused call takes no part, and may be lent any image too
+pub record OnOneImage (k : Held) (calls : List Call) : Type 0 where
+  pub lent : Each (λ h c. c .lent .image ≡ h .image) k calls
+  pub fits : All Fits calls
+
+-- of any of the fifteen calls, refused ones included
 pub record EveryStateOpens : Type 0 where
-  pub opens :
-      (k : Held) (calls : List Call) → k .image ≡ packImage newReu → Memories (k .bus) (k .storage) → Threaded k calls
-      → Opens (after k calls .image)
+  -- an accepted call on an accepted image leaves an accepted image
+  pub stays :
+      (c : Call) → Fits c → openImage (c .lent .image) .refusal ≡ 0 → accepts c ≡ true → openImage (leaves c .image) .refusal ≡ 0
+  -- "every state reached from new can be packed and opened"
+  pub opens : (k : Held) (calls : List Call) → k .image ≡ packImage newReu → OnOneImage k calls → Opens (after k calls .image)
