@@ -2,15 +2,31 @@
 use Rattle.controller.specs.Prelude.{ℕ, Bool, true, false, cond, List, [], _∷_, Idle, Reu}
 use Rattle.controller.specs.Constants.{version, withoutFf00, bankOnes, maskOnes, controlOnes}
 use Rattle.controller.specs.Bytes.{ones}
-use Rattle.controller.specs.Reu.{reuOf, withPower, withDma, cleared}
+use Rattle.controller.specs.Reu.{withPower, withDma, cleared}
 use Rattle.controller.specs.Memory.{zeros}
 
 -- R1: STATUS $10, COMMAND $10, addresses 0, bank $F8 over a shadow of 0, length $FFFF, mask $1F, control $3F; "BA was high is true"
 abbrev pub fresh : Bool → Bool → Reu
 fresh enabled attached =
-    reuOf
-    (ones (version ∷ []) ∷ ones (withoutFf00 ∷ []) ∷ 0 ∷ 0 ∷ 0 ∷ 0 ∷ ones bankOnes ∷ 255 ∷ 255 ∷ ones maskOnes ∷ ones controlOnes ∷ [])
-    0 0 65535 enabled false attached false true false false false false false 0 Idle
+    record {
+      regs =
+          ones (version ∷ []) ∷ ones (withoutFf00 ∷ []) ∷ 0 ∷ 0 ∷ 0 ∷ 0 ∷ ones bankOnes ∷ 255 ∷ 255 ∷ ones maskOnes ∷ ones controlOnes ∷ [];
+      «shadow_c64_addr» = 0;
+      «shadow_reu_addr» = 0;
+      «shadow_len» = 65535;
+      enabled = enabled;
+      «irq_pending» = false;
+      attached = attached;
+      «waiting_ff00» = false;
+      «ba_was_high» = true;
+      «recall_repeat» = false;
+      «terminal_swap_write» = false;
+      «late_ba_fall» = false;
+      «swap_refresh» = false;
+      «swap_release_pending» = false;
+      «swap_read_delay» = 0;
+      dma = Idle;
+    }
 
 abbrev pub newReu : Reu
 newReu = fresh false false
