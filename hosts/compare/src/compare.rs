@@ -3,6 +3,7 @@
 use crate::calls::{Call, Step};
 use crate::generate::Generator;
 use crate::sides::{IMAGE, Image, Machine, places};
+use std::panic::{AssertUnwindSafe, catch_unwind};
 
 /// The steps of a from-new list, the steps that follow each image of a from-image list, and those of a long list.
 const LIST: usize = 1500;
@@ -91,7 +92,14 @@ impl Pair<'_> {
 pub struct Disagreement {
     pub steps: Vec<Step>,
     pub what: String,
-    pub seed: u64,
+}
+
+/// Runs a part of the comparison; what it found, if it found something. A side that panics has been found out too.
+pub fn caught_by(part: impl FnOnce() -> Result<(), String>) -> Option<String> {
+    match catch_unwind(AssertUnwindSafe(part)) {
+        Ok(done) => done.err(),
+        Err(_) => Some("it panics".into()),
+    }
 }
 
 /// The seed of a run's list by its number.
@@ -118,7 +126,7 @@ impl Run {
             let seed = list_seed(self.seed, self.lists);
             let mut steps = Vec::new();
             let done = self.list(pair, seed, &mut steps);
-            done.map_err(|what| Box::new(Disagreement { steps, what, seed }))?;
+            done.map_err(|what| Box::new(Disagreement { steps, what }))?;
             self.lists += 1;
         }
         Ok(())

@@ -1,11 +1,13 @@
 //! Runs the library and the original side by side and compares every call. See the README beside this folder.
 
-use compare::demand3;
+use compare::compare::{caught_by, list_seed};
 use compare::port::Library;
 use compare::refusals::{Refusals, Refuser};
-use compare::sides::{Held, Machine};
-use compare::{SEED, compare::list_seed, record, sessions};
+use compare::rng::drawn_seed;
+use compare::sides::{Held, Machine, Port};
+use compare::{demand3, record, sessions};
 use std::process::ExitCode;
+use std::str::FromStr;
 
 /// The list that was recorded, as it stands in the repository.
 const RECORDED: &str = include_str!("../recorded/original.txt");
@@ -13,38 +15,63 @@ const CALLS: u64 = 10_000_000;
 const DEMAND3_RUNS: u64 = 200;
 
 const HELP: &str = "\
-compare [--calls N] [--seed N]     run the library and the original side by side
+compare [--calls N] [--seed N]     run the library and the original side by side, from a new seed if none is given
 compare --replay FILE              run a list of calls on both sides
-compare --planted                  plant bugs in a stand-in and catch each
-compare --record FILE [--seed N]   record what the original answers";
+compare --planted                  plant bugs in a stand-in and catch each, always from the same seed
+compare --record FILE [--seed N]   record what the original answers
+With the first two, --bug N puts the stand-in with planted bug N into the library's place.";
 
 /// What the command line asks for.
+#[derive(Default)]
 struct Options {
     help: bool,
-    calls: u64,
-    seed: u64,
+    calls: Option<u64>,
+    seed: Option<u64>,
     replay: Option<String>,
     record: Option<String>,
     planted: bool,
+    bug: Option<usize>,
+}
+
+fn number<T: FromStr>(text: String) -> Result<T, String> {
+    text.parse().map_err(|_| format!("no number: {text}\n{HELP}"))
 }
 
 fn options() -> Result<Options, String> {
-    let mut options = Options { help: false, calls: CALLS, seed: SEED, replay: None, record: None, planted: false };
+    let mut options = Options::default();
     let mut words = std::env::args().skip(1);
     while let Some(word) = words.next() {
         let mut value = || words.next().ok_or_else(|| format!("{word} needs a value\n{HELP}"));
-        let number = |text: String| text.parse().map_err(|_| format!("no number: {text}\n{HELP}"));
         match word.as_str() {
             "--help" => options.help = true,
-            "--calls" => options.calls = number(value()?)?,
-            "--seed" => options.seed = number(value()?)?,
+            "--calls" => options.calls = Some(number(value()?)?),
+            "--seed" => options.seed = Some(number(value()?)?),
             "--replay" => options.replay = Some(value()?),
             "--record" => options.record = Some(value()?),
             "--planted" => options.planted = true,
+            "--bug" => options.bug = Some(number(value()?)?),
             _ => return Err(format!("no such option: {word}\n{HELP}")),
         }
     }
     Ok(options)
+}
+
+/// The command that runs this program with these words, in the repository's folder.
+fn command(words: &str) -> String {
+    format!("cargo run --release --manifest-path hosts/Cargo.toml -p compare -- {words}")
+}
+
+/// Runs what draws from a seed. The seed is said before anything is called; how to run all of it again is said last
+/// if something is found.
+fn by_seed(options: &Options, parts: impl FnOnce(u64, u64) -> Result<(), String>) -> Result<(), String> {
+    let (seed, calls) = (options.seed.unwrap_or_else(drawn_seed), options.calls.unwrap_or(CALLS));
+    let bug = options.bug.map_or(String::new(), |bug| format!(" --bug {bug}"));
+    let words = format!("--seed {seed} --calls {calls}{bug}");
+    println!("compare: {words}");
+    match caught_by(|| parts(seed, calls)) {
+        None => Ok(()),
+        Some(what) => Err(format!("{what}\nthe run again, in the repository's folder:\n{}", command(&words))),
+    }
 }
 
 /// Sessions and demand 3 on one machine, with refused calls among the lists if there is something to refuse them.
@@ -60,9 +87,9 @@ fn alone(
         }
     }
     for run in 0..DEMAND3_RUNS {
-        let seed = list_seed(seed, run);
         let refuser = refuser.as_mut().map(|refuser| &mut **refuser as &mut dyn Refuser);
-        demand3::run(machine, refuser, seed).map_err(|what| format!("{side}: seed {seed}: {what}"))?;
+        let done = demand3::run(machine, refuser, list_seed(seed, run));
+        done.map_err(|what| format!("{side}: in run {run} of demand 3 from seed {seed}: {what}"))?;
     }
     println!(
         "{side}: {} recorded sessions come out as recorded, {DEMAND3_RUNS} runs of demand 3 hold",
@@ -71,13 +98,13 @@ fn alone(
     Ok(())
 }
 
-/// All that needs no original: sessions, demand 3, refusals and the recorded list.
-fn without_original(seed: u64) -> Result<(), String> {
-    let mut refusals = Refusals::new(Library, seed);
-    alone("library", &mut Held::new(Library), Some(&mut refusals), seed)?;
-    refusals.run().map_err(|what| format!("refusals: {what}"))?;
+/// All that needs no original: refusals, sessions, demand 3 and the recorded list.
+fn without_original<P: Port + Copy>(port: P, seed: u64) -> Result<(), String> {
+    let mut refusals = Refusals::new(port, seed);
+    refusals.run().map_err(|what| format!("refusals: from seed {seed}: {what}"))?;
     println!("refusals: {} calls answered by number and order, nothing changed by a refused one", refusals.calls);
-    let calls = record::replay(&mut Held::new(Library), RECORDED)?;
+    alone("library", &mut Held::new(port), Some(&mut refusals), seed)?;
+    let calls = record::replay(&mut Held::new(port), RECORDED)?;
     println!("recorded list: {calls} calls agree with what the original answered");
     Ok(())
 }
@@ -86,30 +113,41 @@ fn without_original(seed: u64) -> Result<(), String> {
 mod with_original {
     use super::*;
     use compare::calls::{list_from, list_text};
-    use compare::compare::{Pair, Run};
+    use compare::compare::{Disagreement, Pair, Run};
     use compare::reference::Original;
-    use compare::{planted, shrink};
+    use compare::{SEED, planted, shrink};
     use std::fs;
 
-    /// The random run; a disagreement is made short and shown as a list that can be replayed.
-    fn random(options: &Options) -> Result<(), String> {
-        let (mut library, mut original) = (Held::new(Library), Original::default());
-        let mut pair = Pair { tried: &mut library, right: &mut original };
-        let mut run = Run::new(options.seed);
-        if let Err(found) = run.compare(&mut pair, options.calls) {
-            println!("disagreement after {} calls in the list of seed {}: {}", run.calls, found.seed, found.what);
-            let (steps, what) = shrink::shorten(&mut pair, found.steps);
-            println!("# made short, for --replay; its last step shows it: {what}\n{}", list_text(&steps));
-            return Err(format!("compare: the library and the original disagree: {what}"));
-        }
-        println!("compare: {} calls agree, in {} lists of seed {}", run.calls, run.lists, options.seed);
-        Ok(())
+    /// A disagreement's list made short, as a command that shows it again.
+    fn short(pair: &mut Pair, found: Disagreement, bug: Option<usize>) -> String {
+        let Some((steps, what)) = shrink::shorten(pair, found.steps) else {
+            return "the list in which it came does not show it alone".into();
+        };
+        let bug = bug.map_or(String::new(), |bug| format!(" --bug {bug}"));
+        let replay = command(&format!("--replay /dev/stdin{bug} <<'END'"));
+        let (count, list) = (steps.len(), list_text(&steps));
+        format!("made short, step {count} of {count} shows it: {what}\n{replay}\n{list}END")
     }
 
-    fn replay(file: &str) -> Result<(), String> {
+    /// The random run.
+    fn random<P: Port>(port: P, seed: u64, calls: u64, bug: Option<usize>) -> Result<(), String> {
+        let (mut library, mut original) = (Held::new(port), Original::default());
+        let mut pair = Pair { tried: &mut library, right: &mut original };
+        let mut run = Run::new(seed);
+        let done = run.compare(&mut pair, calls);
+        let (calls, lists) = (run.calls, run.lists);
+        let Err(found) = done else {
+            println!("compare: {calls} calls agree, in {lists} lists");
+            return Ok(());
+        };
+        let disagree = format!("compare: the library and the original disagree after {calls} calls: {}", found.what);
+        Err(format!("{disagree}\n{}", short(&mut pair, *found, bug)))
+    }
+
+    fn replay<P: Port>(port: P, file: &str) -> Result<(), String> {
         let text = fs::read_to_string(file).map_err(|error| format!("{file}: {error}"))?;
         let steps = list_from(&text)?;
-        let (mut library, mut original) = (Held::new(Library), Original::default());
+        let (mut library, mut original) = (Held::new(port), Original::default());
         let mut pair = Pair { tried: &mut library, right: &mut original };
         shrink::begin(&mut pair);
         pair.list(&steps).map_err(|(at, what)| format!("step {at}: {}: {what}", steps[at - 1]))?;
@@ -117,22 +155,33 @@ mod with_original {
         Ok(())
     }
 
+    /// A list or a whole run, with this in the library's place. The random run comes first: it says most.
+    fn on<P: Port + Copy>(port: P, options: &Options) -> Result<(), String> {
+        if let Some(file) = &options.replay {
+            return replay(port, file);
+        }
+        by_seed(options, |seed, calls| {
+            random(port, seed, calls, options.bug)?;
+            without_original(port, seed)?;
+            alone("original", &mut Original::default(), None, seed)?;
+            record::replay(&mut Original::default(), RECORDED).map(drop)
+        })
+    }
+
     pub fn run(options: &Options) -> Result<(), String> {
         if let Some(file) = &options.record {
-            let text = record::record(&mut Original::default(), options.seed);
+            let text = record::record(&mut Original::default(), options.seed.unwrap_or(SEED));
             return fs::write(file, text).map_err(|error| format!("{file}: {error}"));
         }
-        if let Some(file) = &options.replay {
-            return replay(file);
-        }
         if options.planted {
-            return if planted::run() { Ok(()) } else { Err("the planted bugs are not all caught".into()) };
+            let failed =
+                || format!("the planted bugs are not all caught; to try them again:\n{}", command("--planted"));
+            return planted::run().then_some(()).ok_or_else(failed);
         }
-        println!("compare: seed {}", options.seed);
-        without_original(options.seed)?;
-        alone("original", &mut Original::default(), None, options.seed)?;
-        record::replay(&mut Original::default(), RECORDED)?;
-        random(options)
+        match options.bug {
+            None => on(Library, options),
+            Some(number) => on(planted::standin(number).ok_or("there is no such bug")?, options),
+        }
     }
 }
 
@@ -142,11 +191,11 @@ use with_original::run;
 #[cfg(not(original))]
 fn run(options: &Options) -> Result<(), String> {
     const MISSING: &str = "the original's Rust was not there when this program was built (see REU_ORIGINAL)";
-    let asked = options.planted || options.replay.is_some() || options.record.is_some();
+    let asked = options.planted || options.bug.is_some() || options.replay.is_some() || options.record.is_some();
     if asked || std::env::var("CI").is_ok_and(|ci| ci == "true") {
         return Err(format!("compare: {MISSING}"));
     }
-    without_original(options.seed)?;
+    by_seed(options, |seed, _| without_original(Library, seed))?;
     println!("compare: {MISSING}: the recorded list was replayed instead");
     Ok(())
 }

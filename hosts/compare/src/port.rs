@@ -4,6 +4,7 @@ use crate::calls::Call;
 use crate::sides::{Lent, Port};
 use reu::raw::*;
 
+#[derive(Clone, Copy)]
 pub struct Library;
 
 /// A buffer as C passes it; one without bytes is a null pointer, as a careless host would have it.

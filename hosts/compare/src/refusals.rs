@@ -18,6 +18,10 @@ const ROUNDS: usize = 1_000;
 /// What a length of 32 bits would not show.
 const HUGE: usize = 1 << 32;
 
+fn is_zero(bytes: &[u8]) -> bool {
+    bytes.iter().all(|byte| *byte == 0)
+}
+
 /// Lent from, and compared with what it held.
 struct Arena {
     bytes: Vec<u8>,
@@ -175,10 +179,15 @@ impl<P: Port> Refusals<P> {
         }
         self.calls += 1;
         let answer = self.port.call(call, lent);
-        if answer == number * REFUSAL && self.unchanged() {
-            return Ok(());
-        }
-        Err(format!("{call} with a length 2^32 too large answers {answer}, not refusal {number}"))
+        // Of so long a buffer both ends are looked at, half a megabyte each.
+        let unchanged = self.unchanged() && [&huge[..STORAGE], &huge[HUGE..]].iter().all(|end| is_zero(end));
+        let what = match answer == number * REFUSAL {
+            true if unchanged => return Ok(()),
+            true => "is refused and changes a byte".into(),
+            false => format!("answers {answer}, not refusal {number}"),
+        };
+        let image = &self.image.kept[MARGIN..MARGIN + IMAGE];
+        Err(format!("{call} with a length 2^32 too large {what}; image {image:02x?}"))
     }
 
     /// One image, accepted or not, as all fifteen calls must see it.

@@ -1,5 +1,12 @@
 //! Numbers from a seed, and memories filled from one.
 
+use std::hash::{BuildHasher, Hasher, RandomState};
+
+/// A new seed, from the randomness that the system gives to this process.
+pub fn drawn_seed() -> u64 {
+    RandomState::new().build_hasher().finish()
+}
+
 /// SplitMix64: small, fast, and the same everywhere.
 #[derive(Clone)]
 pub struct Rng(u64);

@@ -9,6 +9,7 @@ const PATIENCE: Duration = Duration::from_secs(20);
 
 /// Both sides as every list that is run again finds them.
 pub fn begin(pair: &mut Pair) {
+    pair.tried.mend_guards();
     for start in [Step::Memory(0), Step::Image([0; 34])] {
         pair.tried.step(start);
         pair.right.step(start);
@@ -58,12 +59,11 @@ impl Shortest<'_, '_> {
     }
 }
 
-/// The shortest list found that still disagrees, with what it disagrees on.
-pub fn shorten(pair: &mut Pair, steps: Vec<Step>) -> (Vec<Step>, String) {
-    let what = "the disagreement does not come again".into();
-    let mut shortest = Shortest { pair, steps: Vec::new(), what, begun: Instant::now() };
-    if !shortest.keeps(steps.clone()) {
-        return (steps, shortest.what);
+/// The shortest list found that still disagrees, with what it disagrees on; none if the list does not alone.
+pub fn shorten(pair: &mut Pair, steps: Vec<Step>) -> Option<(Vec<Step>, String)> {
+    let mut shortest = Shortest { pair, steps: Vec::new(), what: String::new(), begun: Instant::now() };
+    if !shortest.keeps(steps) {
+        return None;
     }
     let mut size = shortest.steps.len().div_ceil(2);
     while size > 0 {
@@ -77,5 +77,5 @@ pub fn shorten(pair: &mut Pair, steps: Vec<Step>) -> (Vec<Step>, String) {
         }
     }
     shortest.leave_out(1);
-    (shortest.steps, shortest.what)
+    Some((shortest.steps, shortest.what))
 }

@@ -37,6 +37,8 @@ pub trait Machine {
     fn guards_hold(&self) -> bool {
         true
     }
+    /// Makes them so again.
+    fn mend_guards(&mut self) {}
 
     /// Does one step; a call gives its answer.
     fn step(&mut self, step: Step) -> Option<u32> {
@@ -69,10 +71,15 @@ pub struct Guarded(Vec<u8>);
 
 impl Guarded {
     pub fn new(length: usize) -> Self {
-        let mut bytes = vec![0; length + 2 * GUARD];
-        bytes[..GUARD].fill(GUARD_BYTE);
-        bytes[GUARD + length..].fill(GUARD_BYTE);
-        Self(bytes)
+        let mut made = Self(vec![0; length + 2 * GUARD]);
+        made.mend_guards();
+        made
+    }
+
+    fn mend_guards(&mut self) {
+        let end = self.end();
+        self.0[..GUARD].fill(GUARD_BYTE);
+        self.0[end..].fill(GUARD_BYTE);
     }
 
     fn end(&self) -> usize {
@@ -143,5 +150,11 @@ impl<P: Port> Machine for Held<P> {
 
     fn guards_hold(&self) -> bool {
         self.image.guards_hold() && self.bus.guards_hold() && self.storage.guards_hold()
+    }
+
+    fn mend_guards(&mut self) {
+        self.image.mend_guards();
+        self.bus.mend_guards();
+        self.storage.mend_guards();
     }
 }

@@ -1,13 +1,82 @@
 //! What can be tested of the run itself, and the recorded list, which needs no original.
 
-use compare::SEED;
 use compare::calls::{Call, Step, list_from, list_text};
+use compare::compare::{Pair, Run};
 use compare::generate::Generator;
 use compare::port::Library;
 use compare::record::replay;
-use compare::sides::Held;
+use compare::refusals::{Refusals, Refuser};
+use compare::sides::{Held, IMAGE, Lent, Port};
+use compare::{SEED, demand3};
+use std::cell::RefCell;
+use std::io::{BufRead, BufReader};
+use std::process::{Command, Stdio};
 
 const RECORDED: &str = include_str!("../recorded/original.txt");
+const PROGRAM: &str = env!("CARGO_BIN_EXE_compare");
+
+/// The library, with each call kept beside the image that it was lent.
+#[derive(Clone, Copy)]
+struct Kept<'a>(&'a RefCell<Vec<(Call, Vec<u8>)>>);
+
+impl Port for Kept<'_> {
+    fn call(&mut self, call: Call, lent: Lent) -> u32 {
+        self.0.borrow_mut().push((call, lent.image.to_vec()));
+        Library.call(call, lent)
+    }
+}
+
+/// What each part that draws from a seed calls: the random run, the refusals, and a run of demand 3.
+fn called_from(seed: u64) -> [Vec<(Call, Vec<u8>)>; 3] {
+    let calls = RefCell::new(Vec::new());
+    let (mut tried, mut right) = (Held::new(Kept(&calls)), Held::new(Library));
+    let mut pair = Pair { tried: &mut tried, right: &mut right };
+    assert!(Run::new(seed).compare(&mut pair, 10_000).is_ok());
+    let run = calls.take();
+    let mut refusals = Refusals::new(Kept(&calls), seed);
+    assert!((0..100).all(|_| refusals.refuse(&[0; IMAGE]).is_ok()));
+    let refused = calls.take();
+    assert!(demand3::run(&mut tried, None, seed).is_ok());
+    [run, refused, calls.take()]
+}
+
+#[test]
+fn a_seed_gives_the_same_calls_each_time_and_another_seed_others() {
+    let called = called_from(SEED);
+    assert!(called == called_from(SEED));
+    for other in [SEED + 1, SEED ^ (1 << 63)] {
+        for (part, (calls, others)) in called.iter().zip(called_from(other)).enumerate() {
+            let differ = calls.iter().zip(&others).any(|((call, _), (other, _))| call != other);
+            assert!(differ, "part {part} makes the same calls from {SEED} and {other}");
+        }
+    }
+}
+
+/// The first line that the program prints, which is then ended.
+fn first_line(words: &[&str]) -> String {
+    let mut program = Command::new(PROGRAM).args(words).stdout(Stdio::piped()).spawn().unwrap();
+    let mut output = BufReader::new(program.stdout.take().unwrap());
+    let mut line = String::new();
+    output.read_line(&mut line).unwrap();
+    program.kill().unwrap();
+    program.wait().unwrap();
+    line
+}
+
+#[test]
+fn the_seed_that_is_given_is_the_one_that_is_printed_first() {
+    for seed in [0, SEED, u64::MAX] {
+        let line = first_line(&["--calls", "9", "--seed", &seed.to_string()]);
+        assert_eq!(line, format!("compare: --seed {seed} --calls 9\n"));
+    }
+}
+
+#[test]
+fn each_run_that_is_given_no_seed_has_a_new_one() {
+    let lines = [(); 3].map(|()| first_line(&["--calls", "9"]));
+    assert!(lines.iter().all(|line| line.starts_with("compare: --seed ")), "{lines:?}");
+    assert!(lines[0] != lines[1] && lines[1] != lines[2] && lines[2] != lines[0], "{lines:?}");
+}
 
 #[test]
 fn the_library_answers_as_recorded() {
@@ -47,12 +116,76 @@ fn a_list_reads_as_it_was_written() {
 #[cfg(original)]
 mod with_original {
     use super::*;
-    use compare::compare::{Pair, Run};
-    use compare::planted::{Standin, bugs, caught_by};
+    use compare::compare::caught_by;
+    use compare::planted::{Standin, bugs};
     use compare::record::record;
     use compare::reference::Original;
-    use compare::refusals::Refusals;
     use compare::shrink::{begin, shorten};
+
+    /// How the program says that it is run.
+    const CARGO: &str = "cargo run --release --manifest-path hosts/Cargo.toml -p compare --";
+
+    /// What a shell prints for such a command, with the program put in for cargo; it must find something.
+    fn found_by(command: &str) -> String {
+        let output = Command::new("sh").args(["-c", &command.replace(CARGO, PROGRAM)]).output().unwrap();
+        let text = String::from_utf8(output.stdout).unwrap();
+        assert_eq!(output.status.code(), Some(1), "{command}:\n{text}");
+        text
+    }
+
+    /// A run from a seed of its own with a bug in the library's place, which comes out the same by the command that is
+    /// its last line.
+    fn repeated(bug: &str, calls: u64) -> String {
+        let number = 1 + bugs().iter().position(|(name, ..)| *name == bug).unwrap();
+        let run = found_by(&format!("{CARGO} --calls {calls} --bug {number}"));
+        let (first, last) = (run.lines().next().unwrap(), run.lines().last().unwrap());
+        assert_eq!(first.replace("compare:", CARGO), last);
+        assert_eq!(found_by(last), run);
+        run
+    }
+
+    #[test]
+    fn a_run_that_disagrees_prints_what_repeats_it() {
+        let run = repeated("reads are always $FF", 100_000);
+        let (said, rest) = run.split_once("\nmade short, step ").unwrap();
+        assert!(said.contains("compare: the library and the original disagree after "), "{run}");
+        let (what, rest) = rest.split_once('\n').unwrap();
+        let (replay, _) = rest.split_once("\nEND\n").unwrap();
+        let (step, what) = what.split_once(" shows it: ").unwrap();
+        let replayed = found_by(&format!("{replay}\nEND\n"));
+        let count = step.split(' ').next().unwrap();
+        assert!(replayed.starts_with(&format!("step {count}: ")), "{replayed}");
+        assert!(replayed.ends_with(&format!(": {what}\n")), "{replayed}");
+    }
+
+    #[test]
+    fn so_does_a_run_in_which_a_refusal_is_wrong() {
+        for bug in ["a delay of 3 is taken", "a refusal has a value"] {
+            let run = repeated(bug, 100);
+            let seed = run.split(' ').nth(2).unwrap();
+            assert!(run.contains(&format!("refusals: from seed {seed}: ")), "{run}");
+        }
+    }
+
+    /// The original; but a reset also writes behind the image.
+    fn spills(call: Call, lent: Lent) -> u32 {
+        let behind = lent.image.as_mut_ptr_range().end;
+        let answer = compare::copies::COPIES[0](call, lent);
+        if matches!(call, Call::Reset { .. }) {
+            // SAFETY: the image is `Held`'s, which has bytes behind it to show this.
+            unsafe { *behind = 0 };
+        }
+        answer
+    }
+
+    #[test]
+    fn a_byte_beside_a_buffer_is_shown_by_the_call_that_writes_it() {
+        let (mut tried, mut right) = (Held::new(Standin(spills)), Original::default());
+        let mut pair = Pair { tried: &mut tried, right: &mut right };
+        let found = Run::new(SEED).compare(&mut pair, 200_000).err().unwrap();
+        let (steps, what) = shorten(&mut pair, found.steps).unwrap();
+        assert_eq!((steps, what), (vec![Step::Call(Call::Reset { hard_reset: 0 })], found.what));
+    }
 
     #[test]
     fn the_record_is_what_the_original_answers_now() {
@@ -66,7 +199,7 @@ mod with_original {
             let (mut tried, mut right) = (Held::new(Standin(*standin)), Original::default());
             let mut pair = Pair { tried: &mut tried, right: &mut right };
             let found = Run::new(SEED).compare(&mut pair, 200_000).expect_err(name);
-            let (steps, what) = shorten(&mut pair, found.steps);
+            let (steps, what) = shorten(&mut pair, found.steps).expect(name);
             assert!(steps.len() <= 15, "{name}: {} steps:\n{}", steps.len(), list_text(&steps));
             begin(&mut pair);
             let again = pair.list(&list_from(&list_text(&steps)).unwrap()).expect_err(name);
