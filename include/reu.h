@@ -1,7 +1,9 @@
 /*
  * reu.h: the MOS 8726 RAM expansion controller (REU) with 512 KiB, bus cycle by bus cycle.
  *
- * The library is a port of the controller of the Breadbin466 emulator (MIT licence, see NOTICE) and answers as it does.
+ * The library is a port of the controller of the Breadbin466 emulator (MIT licence, see NOTICE) and answers as it does:
+ * that is shown by comparison runs. That each call answers and leaves what a written definition says is proved, of the
+ * source on the language's abstract machine (the compiler's back end is not covered).
  * It allocates nothing and keeps nothing between calls: everything stands in three buffers of the host.
  *
  *   image    34 bytes       the whole controller: registers, flags and the running transfer
@@ -207,9 +209,10 @@ uint32_t reu_new(uint8_t *image, size_t image_len);
 uint32_t reu_reset(uint8_t *image, size_t image_len, uint32_t hard_reset);
 
 /*
- * Enables or disables the controller. The first enabling attaches the storage and sets every byte of it to 0; later
- * ones leave it as it is. Disabling drops the transfer and clears what a start clears (see reu_write), lowers the
- * interrupt level, and keeps the registers and the storage. Refuses 1, 2, 4.
+ * Enables or disables the controller. Enabling attaches the storage, if it is not attached yet, and then sets every
+ * byte of it to 0; one that is attached keeps its bytes. Disabling drops the transfer, clears what a start clears (see
+ * reu_write) and lowers the interrupt level; it keeps the registers, the shadows, the storage and what is known of BA.
+ * Refuses 1, 2, 4.
  */
 uint32_t reu_set_enabled(uint8_t *image, size_t image_len, uint8_t *storage, size_t storage_len, uint32_t enabled);
 
@@ -230,11 +233,12 @@ uint32_t reu_read(uint8_t *image, size_t image_len, uint16_t addr);
 
 /*
  * Writes a register as the CPU does. STATUS and index 11 to 31 ignore it.
- * - COMMAND drops an armed trigger; then, if bit 7 is set, it starts the transfer (bit 4 set) or arms the trigger
- *   (bit 4 clear). It does not stop a running transfer unless it starts another.
+ * - COMMAND keeps all bits and drops an armed trigger; then, if bit 7 is set, it starts the transfer (bit 4 set) or
+ *   arms the trigger (bit 4 clear). It does not stop a running transfer unless it starts another.
  * - A start clears armed, recall repeat, terminal write, delay, refresh and release. Without an attached storage it
  *   then clears bit 7 of COMMAND, and that is all. With one, STATUS keeps only bit 4, the interrupt level falls, and
- *   the transfer begins with the addresses and the length that the registers show (length 0 means 65,536).
+ *   the transfer begins with the addresses and the length that the registers hold, as reu_debug_register() gives them
+ *   (length 0 means 65,536), and with the type, the Autoload bit and the fix bits of that moment.
  * - The low or high byte of an address or of the length changes the shadow, and both bytes are shown from the shadow.
  *   The bank changes itself and its shadow, and is stored OR $F8.
  * - The interrupt mask is stored OR $1F. An event that STATUS shows raises the interrupt if the mask now lets it.
@@ -244,8 +248,8 @@ uint32_t reu_read(uint8_t *image, size_t image_len, uint16_t addr);
 uint32_t reu_write(uint8_t *image, size_t image_len, uint16_t addr, uint8_t value);
 
 /*
- * Answers the byte that the controller holds in a register, without the effects of a read: nothing is cleared, and the
- * bank is what is held. The index is not folded: 11 and above give $FF. Refuses 1, 2.
+ * Answers the byte that the controller holds in a register, without the effects of a read: nothing is cleared, and no
+ * bit is set that is not held. The index is not folded: 11 and above give $FF. Refuses 1, 2.
  */
 uint32_t reu_debug_register(const uint8_t *image, size_t image_len, uint64_t index);
 
@@ -267,10 +271,20 @@ uint32_t reu_run_reu_cycle(uint8_t *image, size_t image_len, uint8_t *bus, size_
                            uint32_t ba_high_phi1);
 
 /*
- * Decides who has this cycle, the first half of reu_run_reu_cycle(). As a rule: REU_GRANT_CPU without a transfer,
- * REU_GRANT_HOLD with one while ba_high_phi1 is false, else REU_GRANT_TRANSFER. Where BA has just fallen or risen in a
- * swap or a recall it may decide otherwise, as the original does, and a swap may give the storage its byte back.
- * It keeps track of BA, so it is asked once in a cycle. Refuses 1, 2, 4.
+ * Decides who has this cycle, the first half of reu_run_reu_cycle(). A fall or a rise is ba_high_phi1 against that of
+ * the cycle before. A rise in a swap's write phase, if this cycle is odd or even as the one in which the byte was read,
+ * gives the storage its byte back and returns to the read phase. A fall before the first byte of a recall, while
+ * COMMAND has bit 4, sets recall repeat. Then the first of these decides:
+ * - Terminal write is set: REU_GRANT_TRANSFER, and it is cleared.
+ * - The delay is not 0: it counts down; REU_GRANT_TRANSFER where it comes to 0, else REU_GRANT_HOLD.
+ * - A fall in a swap's read phase: before the first byte REU_GRANT_HOLD; else, at the last, REU_GRANT_TRANSFER, and
+ *   terminal write is set; at any other REU_GRANT_HOLD, and the delay is 2.
+ * - A fall in a swap's write phase, unless refresh is set: REU_GRANT_HOLD. If the fall was late, refresh is set and the
+ *   delay is 1; else the storage gets its byte back and the swap returns to the read phase.
+ * - A fall in a recall, unless refresh is set: REU_GRANT_HOLD at the last byte, REU_GRANT_TRANSFER at any other.
+ * - Else REU_GRANT_CPU without a transfer; with one REU_GRANT_TRANSFER if ba_high_phi1 is true, REU_GRANT_HOLD if not.
+ * So a terminal write or a delay answers without a transfer too; ticks of the host's own can leave them over. BA is
+ * kept track of without a transfer as well: a host asks once in each cycle. Refuses 1, 2, 4.
  */
 uint32_t reu_bus_action(uint8_t *image, size_t image_len, uint8_t *storage, size_t storage_len, uint32_t ba_high,
                         uint32_t ba_high_phi1, uint64_t cycle);
@@ -278,11 +292,14 @@ uint32_t reu_bus_action(uint8_t *image, size_t image_len, uint8_t *storage, size
 /*
  * Advances the transfer by one granted cycle, the second half of reu_run_reu_cycle(): store, recall and verify take one
  * tick a byte, swap two or, if BA interrupts it, more. Without a transfer nothing happens.
+ * - A tick with refresh set clears it and only reads the C64's byte into the storage once more.
  * - After each byte the addresses step up unless fixed, C64 from $FFFF to 0, expansion from $FFFFFF to 0, and the
- *   length steps down to 1, where it stays; the registers show them. The expansion address modulo 524,288 is the place
+ *   length steps down to 1, where it stays; the registers hold them. The expansion address modulo 524,288 is the place
  *   in the storage.
  * - A byte that differs in a verify sets bit 5 of STATUS and ends the command. If it was the last but one, one more
- *   tick compares the last byte before the end, moves no counter, and sets bit 6 exactly if it is equal.
+ *   tick compares the last byte before the end, moves no counter, leaves bit 5, and sets bit 6 exactly if it is equal.
+ * - With recall repeat set, a recall that is past its first byte writes the latch (the byte that it wrote last) instead
+ *   of the storage's byte, and clears recall repeat.
  * - The end of the block sets bit 6 of STATUS. A command that ends clears bit 7 of COMMAND and sets its bit 4, restores
  *   addresses and length from the shadows if it started with Autoload, and raises the interrupt if the mask lets it.
  * Answers 1 if a transfer is running afterwards, else 0. Refuses 1, 2, 3, 4.

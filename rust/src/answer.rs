@@ -48,9 +48,9 @@ impl error::Error for Refusal {}
 pub enum Grant {
     /// The CPU.
     Cpu,
-    /// Nobody moves a byte: the CPU is held, and so is the transfer.
+    /// Nobody: the CPU is held, and so is the transfer, if one is running.
     Hold,
-    /// The transfer.
+    /// The transfer, if one is running; the CPU is held in any case.
     Transfer,
 }
 

@@ -35,7 +35,7 @@ pub fn reset(image: &mut [u8], hard_reset: bool) -> Answer<()> {
     split(unsafe { raw::reu_reset(image.as_mut_ptr(), image.len(), hard_reset.into()) }).map(|_| ())
 }
 
-/// Enables or disables the controller. The first enabling attaches the storage and sets every byte of it to 0.
+/// Enables or disables the controller. Enabling attaches a storage that is not attached and sets every byte of it to 0.
 pub fn set_enabled(image: &mut [u8], storage: &mut [u8], enabled: bool) -> Answer<()> {
     split(unsafe {
         raw::reu_set_enabled(image.as_mut_ptr(), image.len(), storage.as_mut_ptr(), storage.len(), enabled.into())
@@ -53,7 +53,7 @@ pub fn capacity_bytes(image: &[u8]) -> Answer<usize> {
     split(unsafe { raw::reu_capacity_bytes(image.as_ptr(), image.len()) }).map(|value| value as usize)
 }
 
-/// The CPU has made the access to $FF00: an armed transfer starts.
+/// The CPU has made the access to $FF00: an armed transfer starts, if COMMAND still has bit 7.
 pub fn trigger_ff00(image: &mut [u8]) -> Answer<()> {
     split(unsafe { raw::reu_trigger_ff00(image.as_mut_ptr(), image.len()) }).map(|_| ())
 }

@@ -26,9 +26,9 @@ pub const REFUSED_STORAGE_LENGTH: u32 = 4;
 
 /// The CPU has the cycle.
 pub const GRANT_CPU: u32 = 0;
-/// Nobody moves a byte: the CPU is held, and BA holds the transfer.
+/// Nobody has it: the CPU is held, and so is the transfer, if one is running.
 pub const GRANT_HOLD: u32 = 1;
-/// The transfer has the cycle.
+/// The transfer has the cycle, if one is running; the CPU is held in any case.
 pub const GRANT_TRANSFER: u32 = 2;
 
 // Kinds of access: the value of `c64_access`, divided by 65,536.
@@ -157,16 +157,16 @@ pub const FLAG_ATTACHED: u8 = 0x04;
 pub const FLAG_ARMED: u8 = 0x08;
 /// BA at PHI1 of the cycle before.
 pub const FLAG_BA_WAS_HIGH: u8 = 0x10;
-/// The second byte of a recall repeats the first.
+/// Past its first byte a recall writes the latch, once.
 pub const FLAG_RECALL_REPEAT: u8 = 0x20;
-/// The next cycle is granted: a swap's terminal pair.
+/// The next cycle is granted, whatever BA is: a swap's terminal pair.
 pub const FLAG_TERMINAL_WRITE: u8 = 0x40;
 /// BA fell late in the cycle before.
 pub const FLAG_LATE_FALL: u8 = 0x80;
 
 // Bits of the byte at `IMAGE_MORE_FLAGS`.
 
-/// The next tick reads a swap's byte again.
+/// The next tick only reads the C64's byte into the storage again.
 pub const FLAG_REFRESH: u8 = 0x01;
 /// The CPU may go on even with BA low, once.
 pub const FLAG_RELEASE: u8 = 0x02;

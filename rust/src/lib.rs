@@ -1,6 +1,7 @@
 //! The MOS 8726 RAM expansion controller (REU) with 512 KiB, bus cycle by bus cycle.
 //!
-//! The controller is in `libreu.a`, a library in which every answer is proved; this crate has its calls for a Rust host:
+//! The controller is in `libreu.a`. What each of its calls answers and leaves is proved, of the library's source on the
+//! language's abstract machine (the compiler's back end is not covered). This crate has the calls for a Rust host:
 //!
 //! - [`Machine`] owns the controller, the C64's memory and the expansion memory;
 //! - [`calls`] has the same calls on slices, for a host that keeps these itself;

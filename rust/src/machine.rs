@@ -110,7 +110,8 @@ impl Machine {
         accepted(calls::reset(&mut self.image, hard_reset));
     }
 
-    /// Enables or disables the controller. The first enabling attaches the storage and sets every byte of it to 0.
+    /// Enables or disables the controller. Enabling attaches a storage that is not attached and sets every byte of it
+    /// to 0.
     pub fn set_enabled(&mut self, enabled: bool) {
         accepted(calls::set_enabled(&mut self.image, &mut self.storage, enabled));
     }
@@ -125,7 +126,7 @@ impl Machine {
         accepted(calls::capacity_bytes(&self.image))
     }
 
-    /// The CPU has made the access to $FF00: an armed transfer starts.
+    /// The CPU has made the access to $FF00: an armed transfer starts, if COMMAND still has bit 7.
     ///
     /// ```
     /// let mut machine = reu::Machine::new();

@@ -1,6 +1,6 @@
 //! What the recorded sessions leave out: the calls around a transfer, and the machine as a value.
 
-use reu::{Access, BUS_SIZE, Machine, Refusal, STORAGE_SIZE};
+use reu::{Access, BUS_SIZE, Grant, Machine, Refusal, STORAGE_SIZE};
 
 /// A swap of one byte at $1000, started with COMMAND $92.
 fn swapping() -> Machine {
@@ -72,6 +72,32 @@ fn a_swap_releases_the_cpu_once() {
         let ready = [false, false, true].map(|ba_high| machine.cpu_ready_after_dma(ba_high));
         assert_eq!(ready, [!ba_low, false, true]);
     }
+}
+
+/// A swap of so many bytes, one of them done, then a fall of BA with this grant; the host's own ticks end it.
+fn ended_by_ticks(length: u8, fall: Grant, ticks: u64) -> Machine {
+    let mut machine = swapping();
+    machine.write(0xDF07, length);
+    machine.write(0xDF01, 0x92);
+    assert!((0..2).all(|cycle| machine.run_reu_cycle(true, cycle, false, true)));
+    assert_eq!(machine.bus_action(true, false, 2), fall);
+    (0..ticks).for_each(|tick| assert_eq!(machine.tick_dma(3 + tick, false), tick + 1 < ticks));
+    assert!(!machine.dma_active());
+    machine
+}
+
+/// Idle, and the CPU does not have the cycle: what the fall has left over answers first.
+#[test]
+fn what_a_fall_leaves_over_answers_without_a_transfer() {
+    let mut delayed = ended_by_ticks(3, Grant::Hold, 4);
+    let grants = [10, 11, 12].map(|cycle| delayed.bus_action(true, true, cycle));
+    assert_eq!(grants, [Grant::Hold, Grant::Transfer, Grant::Cpu]);
+    let mut terminal = ended_by_ticks(2, Grant::Transfer, 2);
+    let grants = [10, 11].map(|cycle| terminal.bus_action(true, true, cycle));
+    assert_eq!(grants, [Grant::Transfer, Grant::Cpu]);
+    let mut by_cycles = ended_by_ticks(3, Grant::Hold, 4);
+    let held = [10, 11, 12].map(|cycle| by_cycles.run_reu_cycle(true, cycle, false, true));
+    assert_eq!(held, [true, true, false]);
 }
 
 #[test]
