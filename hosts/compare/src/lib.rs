@@ -19,5 +19,5 @@ pub mod sessions;
 pub mod shrink;
 pub mod sides;
 
-/// The seed of what must be the same each time: the recorded list, the planted bugs and the tests. A run draws its own.
+/// The seed of what must be the same each time: the recorded list and the planted bugs. A run draws its own.
 pub const SEED: u64 = 8726;

@@ -1,13 +1,13 @@
 //! The proof that the run can fail: bugs planted in a stand-in for the library, each of which must be caught.
 //!
-//! Every part that tries them has a fixed seed: a bug that 200,000 calls of a new seed missed by chance would fail the
-//! gate though nothing is wrong.
+//! All that tries them is drawn from [`crate::SEED`]: a bug that 200,000 calls of a new seed missed by chance would fail
+//! the gate though nothing is wrong.
 
 #[path = "../planted/table.rs"]
 mod table;
 
 use crate::calls::Call;
-use crate::compare::{Pair, Run, caught_by};
+use crate::compare::{Pair, Run, caught_by, list_seed};
 use crate::copies::{COPIES, CallOn};
 use crate::reference::Original;
 use crate::refusals::Refusals;
@@ -141,7 +141,7 @@ fn random_run(standin: CallOn, calls: &mut u64) -> Result<(), String> {
 fn demand3_runs(standin: CallOn) -> Result<(), String> {
     let mut refuser = Refusals::new(Standin(standin), crate::SEED);
     let mut machine = Held::new(Standin(standin));
-    (0..DEMAND3_RUNS).try_for_each(|seed| demand3::run(&mut machine, Some(&mut refuser), seed))
+    (0..DEMAND3_RUNS).try_for_each(|run| demand3::run(&mut machine, Some(&mut refuser), list_seed(crate::SEED, run)))
 }
 
 fn broken_sessions(standin: CallOn) -> Vec<usize> {
