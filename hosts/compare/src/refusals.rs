@@ -18,9 +18,8 @@ const ROUNDS: usize = 1_000;
 /// What a length of 32 bits would not show.
 const HUGE: usize = 1 << 32;
 
-fn is_zero(bytes: &[u8]) -> bool {
-    bytes.iter().all(|byte| *byte == 0)
-}
+/// What both ends of a buffer beyond that must be afterwards.
+static ZEROS: [u8; STORAGE] = [0; STORAGE];
 
 /// Lent from, and compared with what it held.
 struct Arena {
@@ -180,7 +179,7 @@ impl<P: Port> Refusals<P> {
         self.calls += 1;
         let answer = self.port.call(call, lent);
         // Of so long a buffer both ends are looked at, half a megabyte each.
-        let unchanged = self.unchanged() && [&huge[..STORAGE], &huge[HUGE..]].iter().all(|end| is_zero(end));
+        let unchanged = self.unchanged() && huge[..STORAGE] == ZEROS && huge[HUGE..] == ZEROS;
         let what = match answer == number * REFUSAL {
             true if unchanged => return Ok(()),
             true => "is refused and changes a byte".into(),
