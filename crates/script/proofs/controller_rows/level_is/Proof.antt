@@ -1,0 +1,16 @@
+use borrow.Author.Tests.{lt-ltb, le-ltb}
+use Rattle.script.specs.Operations.{isLevel}
+use borrow.Author.Needs.{needs}
+use Rattle.script.proofs.controller_rows.level_is.Statement.{statement}
+use Rattle.script.proofs.controller_rows.level_is.Tie as tie
+
+returns : tie.Need-returns
+unfolding isLevel
+returns c = rw (lt-ltb 18 _ (c .before .if1 .taken))
+
+returns-2 : tie.Need-returns-2
+unfolding isLevel
+returns-2 c = rw (le-ltb 18 _ (c .if1 .left))
+
+pub level-is-spec : {M : Type 1} → statement M
+level-is-spec = tie.close (tie.spec (λ c. search needs) (λ c. search needs) returns returns-2)

@@ -1,0 +1,44 @@
+use mathlib.Core.Path.{_≡_, ap, _∙_}
+use mathlib.Core.Bool.{true}
+use Prim.Native.Nat.{ℕ, _+_, _-_, _/_, _%_}
+use native.Mathlib.Omega.{arith}
+use borrow.Author.Tests.{le-ltb, lt-ltb}
+use Rattle.script.specs.Operations.{cyclesRow, playCycles}
+use borrow.Author.Needs.{needs}
+use Rattle.script.proofs.cycle_rows.on_cycles.Statement.{statement}
+use Rattle.script.proofs.cycle_rows.on_cycles.Tie as tie
+
+returns : tie.Need-returns
+unfolding cyclesRow
+returns c =
+    let its-args = c .before .before .before .before .before .before .before .before .before .before .before .before .before .before .args in
+    let its-if1 = c .before .before .before .before .before .before .before .before .before .before .if1 in
+    let its-ticks = c .before .before .before .before .before .before .ticks in
+    let first = its-args .place in
+    let count : first + its-args .value - first ≡ its-args .value = omega arith in
+    let o = its-args .operation in
+    rw (lt-ltb _ 40 (its-if1 .taken))
+    (its-ticks .ensures
+    ∙ ap
+    (λ (n : ℕ). playCycles (o % 2) (o / 2 % 2) (o / 4 % 2) n first
+    (true, its-args .image .now, its-args .bus .now, its-args .storage .now))
+    count)
+
+returns-2 : tie.Need-returns-2
+unfolding cyclesRow
+returns-2 c =
+    let its-if1 = c .before .before .before .before .before .before .before .before .before .before .before .if1 in
+    let its-if2 = c .before .before .before .before .before .before .before .before .before .before .if2 in
+    let its-granted = c .before .before .before .before .before .before .granted in
+    rw (le-ltb _ 40 (its-if1 .left), lt-ltb _ 44 (its-if2 .taken)) (its-granted .ensures)
+
+returns-3 : tie.Need-returns-3
+unfolding cyclesRow
+returns-3 c = rw (le-ltb _ 40 (c .before .if1 .left), le-ltb _ 44 (c .if2 .left))
+
+pub on-cycles-spec : {M : Type 1} → statement M
+on-cycles-spec =
+    tie.close
+    (tie.spec (λ c. search needs) (λ c. search needs) (λ c. search needs) (λ c. search needs) (λ c κs. search needs)
+    (λ c. search needs) (λ c. search needs) (λ c. search needs) returns (λ c. search needs) (λ c κs. search needs)
+    (λ c. search needs) (λ c. search needs) (λ c. search needs) returns-2 returns-3)

@@ -1,0 +1,3 @@
+pub mod Lines
+pub mod Operations
+pub mod Rows
