@@ -1,5 +1,5 @@
 -- A bit by its mask and by its digit: the code tests a mask, and an image's byte is a sum of digits.
-use mathlib.Core.Bool.{Bool, true, false, not, true≢false}
+use mathlib.Core.Bool.{Bool, true, false, not}
 use mathlib.Core.Path.{_≡_, refl, sym, ap, _∙_}
 use Prim.Native.Nat.{ℕ, zero, suc, _+_, _*_, _/_, _%_, _^_, _<_}
 use native.Mathlib.Nat.{mod-lt, one-mul, zero-mul}
@@ -8,7 +8,7 @@ use lib.Pow.{pow-pos, high-ones}
 use lib.Bits.{bitAnd, and-high}
 use lib.Dec.{eqb}
 use borrow.Author.Tests.{eq-eqb, ne-eqb, eqb-true, eqb-false}
-use Rattle.controller.specs.Bytes.{bit}
+use Rattle.controller.specs.Bytes.{bit, bitOf}
 
 -- what a mask of one bit keeps
 kept : (v n : ℕ) → bitAnd v (2 ^ n) ≡ (v / 2 ^ n % 2) * 2 ^ n
@@ -23,6 +23,13 @@ pub bit-div : (v n : ℕ) → bit v n ≡ eqb (v / 2 ^ n % 2) 1
 bit-div v n = ap (λ (x : ℕ). not (eqb x 0)) (kept v n) ∙ digit (v / 2 ^ n % 2) (2 ^ n) (mod-lt (v / 2 ^ n) (omega arith)) (pow-pos n)
 
 -- the bit as a digit, and the digit as the bit
+pub bit-digit : (v n : ℕ) → bitOf (bit v n) ≡ v / 2 ^ n % 2
+bit-digit v n = ap bitOf (bit-div v n) ∙ back (v / 2 ^ n % 2) (mod-lt (v / 2 ^ n) (omega arith)) (eqb (v / 2 ^ n % 2) 1) refl
+  where
+    back : (q : ℕ) → q < 2 → (t : Bool) → eqb q 1 ≡ t → bitOf t ≡ q
+    back q h true e = omega (arith, eqb-true q 1 e)
+    back q h false e = omega (arith, eqb-false q 1 e)
+
 pub bit-one : (v n : ℕ) → bit v n ≡ true → v / 2 ^ n % 2 ≡ 1
 bit-one v n e = eqb-true (v / 2 ^ n % 2) 1 (sym (bit-div v n) ∙ e)
 

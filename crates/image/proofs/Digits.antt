@@ -16,14 +16,6 @@ pub bit-back : (n : ℕ) (b : Bool) → n ≡ bitOf b → eqb n 1 ≡ b
 bit-back n true h = eq-eqb n 1 h
 bit-back n false h = ne-eqb n 1 (λ e. omega arith)
 
--- the other way: what a test of a digit says, as the digit
-pub digit-back : (n : ℕ) → n < 2 → bitOf (eqb n 1) ≡ n
-digit-back n h = go (eqb n 1) refl
-  where
-    go : (t : Bool) → eqb n 1 ≡ t → bitOf t ≡ n
-    go true e = omega (arith, borrow.Author.Tests.eqb-true n 1 e)
-    go false e = omega (arith, borrow.Author.Tests.eqb-false n 1 e)
-
 -- eight flags in a byte: each comes back. One `omega` for each flag, and no cases
 module _ (a b c d e f g h : Bool) where
   abbrev sum8 : ℕ

@@ -12,14 +12,14 @@ use Rattle.controller.specs.declared.dma.Dma.the-variants.{Idle, Running}
 use Rattle.controller.specs.Bytes.{bit, bitOf, word, long}
 use Rattle.controller.specs.Dma.{typeOf}
 use Rattle.controller.specs.Refusals.{wellFormed}
-use Rattle.controller.proofs.Bits.{bit-div}
+use Rattle.controller.proofs.Bits.{bit-digit}
 use Rattle.controller.specs.Dma.{typeNumber}
 use Rattle.image.specs.Layout.{phaseNumber, phaseOf, at, gets, present, flags18, flags19, flags33, transferBytes, middleBytes, packImage, dmaAt, transferAt, reuAt}
 use Rattle.image.specs.Open.{allZero, idleOk, movingOk, bytesOk, imageOk, openImage}
 use lib.Seq.{length-take-le}
 use Rattle.image.specs.Valid.{Bytes, Typed, DmaTyped}
 use Rattle.image.proofs.Gets.{gets-rest}
-use Rattle.image.proofs.Digits.{digit-back, byte-of-bits, six-of-bits}
+use Rattle.image.proofs.Digits.{byte-of-bits, six-of-bits}
 use Rattle.image.proofs.Opening.{ok-idle, ok-moving, opened-is, opened-long, opened-ok}
 use Rattle.image.specs.declared.Opened.{Opened}
 use Rattle.image.proofs.Packed.{and-left, and-right}
@@ -54,18 +54,15 @@ module _ (x y z : ℕ) (hx : x < 256) (hy : y < 256) (hz : z < 256) where
   three-2 : long x y z / 65536 % 256 ≡ z
   three-2 = omega arith
 
--- the digits of a byte, as its flags
-dig : (x k : ℕ) → bitOf (bit x k) ≡ x / 2 ^ k % 2
-dig x k = ap bitOf (bit-div x k) ∙ digit-back (x / 2 ^ k % 2) (omega arith)
-
+-- a byte made of its bits
 byte-back : (x : ℕ) → x < 256 → bitOf (bit x 0) + 2 * bitOf (bit x 1) + 4 * bitOf (bit x 2) + 8 * bitOf (bit x 3) + 16 * bitOf (bit x 4) + 32 * bitOf (bit x 5) + 64 * bitOf (bit x 6) + 128 * bitOf (bit x 7) ≡ x
-byte-back x h = (λ i. dig x 0 i + 2 * dig x 1 i + 4 * dig x 2 i + 8 * dig x 3 i + 16 * dig x 4 i + 32 * dig x 5 i + 64 * dig x 6 i + 128 * dig x 7 i) ∙ byte-of-bits x h
+byte-back x h = (λ i. bit-digit x 0 i + 2 * bit-digit x 1 i + 4 * bit-digit x 2 i + 8 * bit-digit x 3 i + 16 * bit-digit x 4 i + 32 * bit-digit x 5 i + 64 * bit-digit x 6 i + 128 * bit-digit x 7 i) ∙ byte-of-bits x h
 
 six-back : (x : ℕ) → x < 64 → bitOf (bit x 0) + 2 * bitOf (bit x 1) + 4 * bitOf (bit x 2) + 8 * bitOf (bit x 3) + 16 * bitOf (bit x 4) + 32 * bitOf (bit x 5) ≡ x
-six-back x h = (λ i. dig x 0 i + 2 * dig x 1 i + 4 * dig x 2 i + 8 * dig x 3 i + 16 * dig x 4 i + 32 * dig x 5 i) ∙ six-of-bits x h
+six-back x h = (λ i. bit-digit x 0 i + 2 * bit-digit x 1 i + 4 * bit-digit x 2 i + 8 * bit-digit x 3 i + 16 * bit-digit x 4 i + 32 * bit-digit x 5 i) ∙ six-of-bits x h
 
 two-back : (x : ℕ) → x < 4 → bitOf (bit x 0) + 2 * bitOf (bit x 1) ≡ x
-two-back x h = (λ i. dig x 0 i + 2 * dig x 1 i) ∙ omega arith
+two-back x h = (λ i. bit-digit x 0 i + 2 * bit-digit x 1 i) ∙ omega arith
 
 -- a list that is all zeros
 zeros-are : (l : List ℕ) → allZero l ≡ true → l ≡ replicate (length l) 0

@@ -3,6 +3,7 @@ use Prim.Native.Nat.{ℕ, _+_}
 use mathlib.Core.Bool.{Bool, true, false, cond, _&&_}
 use mathlib.Core.List.{List, [], _∷_, map}
 use lib.Dec.{eqb}
+use Rattle.controller.specs.Bytes.{bitOf}
 use Rattle.script.specs.Operations.{Played, andThen, rowOf}
 use Rattle.script.specs.Rows.{filledOf, operationOf, placeOf, valueOf}
 
@@ -47,7 +48,7 @@ Counted = ℕ × List ℕ × List ℕ × List ℕ
 -- a line more
 abbrev pub countLine : List ℕ → ℕ → Counted → Counted
 countLine script line x =
-    let y : Played = playLine script line (x .1) (x .2) (x .3) in (x .0 + cond (y .0) 1 0, y .1, y .2, y .3)
+    let y : Played = playLine script line (x .1) (x .2) (x .3) in (x .0 + bitOf (y .0), y .1, y .2, y .3)
 
 unfoldable pub countLines : List ℕ → List ℕ → Counted → Counted
 countLines script [] x = x

@@ -5,6 +5,7 @@ use mathlib.Core.Bool.{Bool, true, false, cond, _&&_}
 use mathlib.Core.List.{List}
 use lib.Dec.{eqb, ltb}
 use lib.ListN.{length, getD, set}
+use Rattle.controller.specs.Bytes.{bit, bitOf}
 use Rattle.reu.specs.Exports.{refusalUnit, reuBusAction, reuCycle, reuDebugRegister, reuNew, reuRead, reuReset, reuSetEnabled, reuTickDma, reuTriggerFf00, reuWrite}
 use Rattle.script.specs.Rows.{operationOf, placeOf, valueOf}
 
@@ -58,7 +59,7 @@ isPairShown a v i = isShown a (v % 256) i && isShown (a + 1) (v / 256) i
 
 -- the interrupt level is bit 1 of the image's byte 18
 unfoldable pub isLevel : ℕ → List ℕ → Bool
-isLevel v i = ltb 18 (length i) && eqb (getD i 18 0 / 2 % 2) v
+isLevel v i = ltb 18 (length i) && eqb (bitOf (bit (getD i 18 0) 1)) v
 
 -- new, reset and FF00; writes of a byte, a pair and the expansion address; what is read, shown, shown as a pair; the level
 unfoldable pub controllerRow : ℕ → ℕ → ℕ → List ℕ → OnOne
@@ -132,9 +133,9 @@ grantRow high phi1 n v i m s = tickRow n v m (reuBusAction i s high phi1 n)
 -- says how many cycles, and bit 2 what each answers; from 40 on it is one cycle, and the value is its grant
 unfoldable pub cyclesRow : ℕ → ℕ → ℕ → List ℕ → List ℕ → List ℕ → Played
 cyclesRow operation a v i m s =
-    let high : ℕ = operation % 2 in
-    let phi1 : ℕ = operation / 2 % 2 in
-    cond (ltb operation 40) (playCycles high phi1 (operation / 4 % 2) v a (true, i, m, s))
+    let high : ℕ = bitOf (bit operation 0) in
+    let phi1 : ℕ = bitOf (bit operation 1) in
+    cond (ltb operation 40) (playCycles high phi1 (bitOf (bit operation 2)) v a (true, i, m, s))
     (cond (ltb operation 44) (grantRow high phi1 a v i m s) (false, i, m, s))
 
 -- ---- any row

@@ -1,12 +1,16 @@
 use borrow.Author.Tests.{lt-ltb, le-ltb}
 use Rattle.script.specs.Operations.{isLevel}
+use lib.ListN.{getD}
+use Rattle.controller.proofs.Bits.{bit-digit}
 use borrow.Author.Needs.{needs}
 use Rattle.script.proofs.controller_rows.level_is.Statement.{statement}
 use Rattle.script.proofs.controller_rows.level_is.Tie as tie
 
 returns : tie.Need-returns
 unfolding isLevel
-returns c = rw (lt-ltb 18 _ (c .before .if1 .taken))
+returns c =
+    let its-args = c .before .before .args in
+    rw (lt-ltb 18 _ (c .before .if1 .taken), bit-digit (getD (its-args .image .now) 18 0) 1)
 
 returns-2 : tie.Need-returns-2
 unfolding isLevel
