@@ -5,7 +5,13 @@ use Prim.Native.Nat.{ℕ}
 use lib.ListN.{replicate}
 use Rattle.pane.specs.declared.number.Number.the-variants.{Value, TooLarge, Bad}
 use Rattle.pane.specs.Faults.{faultOf, faultsFrom, faultsOf}
-use Rattle.pane.specs.Rows.{flagsRow, runningRow, transferRow}
+use Rattle.controller.specs.Calls.{dmaActiveCall}
+use Rattle.controller.specs.Dma.{typeOf}
+use Rattle.controller.specs.Refusals.{checked, refusalOf, wellFormed}
+use Rattle.image.specs.Layout.{reuAt}
+use Rattle.image.specs.Open.{bytesOk, imageOk, openImage}
+use Rattle.reu.specs.Exports.{code, look, reuDmaActive}
+use Rattle.pane.specs.Rows.{copyOf, flagsRow, heldRow, refusedRow, rowOf, runningRow, transferRow}
 use Rattle.pane.specs.Shown.{_⊕_, ascii, bitsFrom, bitsOf, decimalOf, decimalUpTo, fillFrom, hexOf}
 use Rattle.pane.specs.Typed.{digitsFrom, keyFrom, keyOf, numberOf, wordFrom, wordOf, wordsFrom, wordsOf}
 
@@ -87,3 +93,43 @@ latch = refl
 options : runningRow image 20 ≡ ascii "  options    fixc64=0 fixexp=0 load=1"
 unfolding image runningRow bitsFrom _⊕_
 options = refl
+
+-- ---- images that are accepted or refused: this one runs a command, 33 bytes are too few, and ones alone are out of range
+
+runs : reuDmaActive image ≡ 1
+unfolding image look checked openImage imageOk bytesOk wellFormed dmaActiveCall refusalOf code reuAt typeOf
+runs = refl
+
+too-short : reuDmaActive (replicate 33 0) ≡ 16777216
+unfolding look checked openImage
+too-short = refl
+
+out-of-range : reuDmaActive (replicate 34 255) ≡ 33554432
+unfolding look checked openImage imageOk bytesOk
+out-of-range = refl
+
+-- an accepted one has its rows, and none that says otherwise
+accepted-row : rowOf image 12 ≡ ascii "machine      enabled=1 attached=1 armed=1"
+unfolding rowOf heldRow
+accepted-row = rw runs armed
+
+accepted-says-nothing : rowOf image 21 ≡ []
+unfolding image rowOf heldRow runningRow
+accepted-says-nothing = rw runs
+
+-- a refused one has no row but that
+refused-short : rowOf (replicate 33 0) 21 ≡ ascii "image        refused by 1: it holds no controller"
+unfolding rowOf refusedRow decimalUpTo _⊕_
+refused-short = rw too-short
+
+refused-range : rowOf (replicate 34 255) 21 ≡ ascii "image        refused by 2: it holds no controller"
+unfolding rowOf refusedRow decimalUpTo _⊕_
+refused-range = rw out-of-range
+
+no-register : rowOf (replicate 34 255) 0 ≡ []
+unfolding rowOf refusedRow
+no-register = rw out-of-range
+
+-- nor has the copy with which it is compared later
+no-register-before : rowOf (copyOf (replicate 33 0)) 0 ≡ []
+no-register-before = no-register

@@ -3,5 +3,7 @@ pub mod Cuts
 pub mod Decimals
 pub mod Digits
 pub mod Examples
+pub mod Pane
+pub mod Refused
 pub mod Tables
 pub mod Words

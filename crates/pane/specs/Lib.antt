@@ -1,3 +1,4 @@
+pub mod Answers
 pub mod Faults
 pub mod Rows
 pub mod Shown

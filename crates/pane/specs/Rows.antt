@@ -2,10 +2,11 @@
 -- The places of the bytes are those of document 01's image record.
 use Prim.Native.Nat.{ℕ, _+_, _*_, _%_}
 use mathlib.Core.Bool.{cond}
-use mathlib.Core.List.{List, [], _∷_, _++_}
+use mathlib.Core.List.{List, [], _∷_}
 use lib.Dec.{eqb, ltb}
-use lib.ListN.{getD, take, replicate}
-use Rattle.reu.specs.Exports.{reuDebugRegister, reuRead}
+use lib.ListN.{getD, length, replicate}
+use Rattle.reu.specs.Exports.{reuDebugRegister, reuDmaActive, reuRead}
+use Rattle.pane.specs.Answers.{accepted, refusedBy}
 use Rattle.pane.specs.Shown.{_⊕_, ascii, bitsOf, hexOf}
 
 -- ---- numbers of one, two and three bytes, low byte first
@@ -25,9 +26,9 @@ longAt i p = wordAt i p + 65536 * byteAt i (p + 2)
 abbrev pub held : List ℕ → ℕ → ℕ
 held i n = reuDebugRegister i n % 256
 
--- 34 bytes of an image, 00 where it has fewer
+-- an image of 34 bytes; of any other length, which is refused, 34 bytes that are refused too
 abbrev pub copyOf : List ℕ → List ℕ
-copyOf i = take 34 (i ++ replicate 34 0)
+copyOf i = cond (eqb (length i) 34) i (replicate 34 255)
 
 -- what a read of the register would give, of a copy
 abbrev pub reads : List ℕ → ℕ → ℕ
@@ -91,12 +92,22 @@ runningRow i n =
     ⊕ hexOf 5 (longAt i 29))
     (cond (eqb n 19)
     ([] ⊕ ascii "  latch      " ⊕ hexOf 2 (byteAt i 32) ⊕ bitsOf " first=3 odd=4 tail=5" (byteAt i 33))
-    ([] ⊕ bitsOf "  options    fixc64=0 fixexp=1 load=2" (byteAt i 33))))
+    (cond (eqb n 20) ([] ⊕ bitsOf "  options    fixc64=0 fixexp=1 load=2" (byteAt i 33)) [])))
 
 -- ---- all of them
 
-unfoldable pub rowOf : List ℕ → ℕ → List ℕ
-rowOf i n =
+-- what the controller holds
+unfoldable pub heldRow : List ℕ → ℕ → List ℕ
+heldRow i n =
     cond (ltb n 11) (registerRow i n)
     (cond (ltb n 17) (flagsRow i n)
     (cond (eqb n 17) (transferRow i) (runningRow i n)))
+
+-- of a refused image one row says so, which an accepted one has not; no bytes in the others
+unfoldable pub refusedRow : ℕ → ℕ → List ℕ
+refusedRow answer n =
+    cond (eqb n 21) ([] ⊕ ascii "image        " ⊕ refusedBy answer ⊕ ascii ": it holds no controller") []
+
+-- every call refuses an image alike: one is asked
+unfoldable pub rowOf : List ℕ → ℕ → List ℕ
+rowOf i n = cond (accepted (reuDmaActive i)) (heldRow i n) (refusedRow (reuDmaActive i) n)

@@ -7,7 +7,7 @@ ghost use mathlib.Core.List.{_∷_, []};
 ghost use Prim.Native.Nat.{_+_, _-_, _≤_};
 ghost use lib.Dec.{eqb};
 ghost use lib.ListN.{length, take, drop, getD};
-ghost use Rattle.pane.specs.Shown.{_⊕_, bit, bitsFrom, decimalOf, fillFrom, hexDigit, hexOf, padded, textOf};
+ghost use Rattle.pane.specs.Shown.{_⊕_, bit, bitsFrom, decimalOf, decimalUpTo, fillFrom, hexDigit, hexOf, padded, textOf};
 ghost use Rattle.pane.specs.Typed.{isBlank, keyOf, numberOf, wordOf, wordsOf};
 ghost use Rattle.pane.specs.Typed.{same as Typed·same};
 
@@ -247,12 +247,20 @@ impl Line {
         self.hex2((n / 65536 % 256) as u8).hex4(n)
     }
 
-    pub fn decimal(self, n: u64) -> Line
-        ensures { λ r. ⌜ textOf r ≡ textOf self ⊕ decimalOf n ⌝ }
+    // In decimal.
+    pub fn digits(self, n: u64) -> Line
+        ensures { λ r. ⌜ textOf r ≡ textOf self ⊕ decimalUpTo 20 n ⌝ }
     {
         let mut digits = [0u8; 20];
         let k = io::decimal(n, &mut digits);
-        self.put(b'+').text(&digits[..k])
+        self.text(&digits[..k])
+    }
+
+    // In decimal, as it is typed.
+    pub fn decimal(self, n: u64) -> Line
+        ensures { λ r. ⌜ textOf r ≡ textOf self ⊕ decimalOf n ⌝ }
+    {
+        self.put(b'+').digits(n)
     }
 
     // A text in which a digit right after = is a bit's number, and that bit of `byte` is shown in its place.

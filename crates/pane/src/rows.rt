@@ -1,16 +1,18 @@
 // The register pane: a row for each register and for what else a controller holds.
 // Every number is looked up in the image at the moment that the row is made.
+use crate::answers::is_accepted;
+use crate::answers::refusal;
 use crate::line::Line;
 use crate::places;
 ghost use mathlib.Core.Path.{_≡_};
 ghost use mathlib.Core.List.{[]};
 ghost use Prim.Native.Nat.{_%_, _<_, _≤_};
 ghost use lib.ListN.{length};
-ghost use Rattle.pane.specs.Rows.{byteAt, copyOf, flagsRow, longAt, reads, registerName, registerRow, rowOf, runningRow, transferRow, typeName, wordAt};
+ghost use Rattle.pane.specs.Rows.{byteAt, copyOf, flagsRow, heldRow, longAt, reads, refusedRow, registerName, registerRow, rowOf, runningRow, transferRow, typeName, wordAt};
 ghost use Rattle.pane.specs.Rows.{held as Rows·held, spelled as Rows·spelled};
 ghost use Rattle.pane.specs.Shown.{_⊕_, ascii, bitsOf, hexOf, textOf};
 
-pub const ROWS: usize = 21;
+pub const ROWS: usize = 22;
 // Where a row's label ends: what follows differs from machine to machine.
 pub const LABEL: usize = 13;
 
@@ -44,11 +46,15 @@ pub fn transfer_expansion(image: &[u8]) -> u32
     long(image, places::TRANSFER_EXPANSION)
 }
 
+// A copy of what is no image of 34 bytes is refused, as that is.
 pub fn copied(image: &[u8]) -> [u8; 34]
     ensures { λ r. ⌜ r ≡ copyOf (now (image .entry)) ⌝ }
     ensures { λ r. ⌜ 34 ≡ length r ⌝ }
 {
-    let mut copy = [0u8; 34];
+    let mut copy = [255u8; 34];
+    if image.len() != 34 {
+        return copy;
+    }
     let mut i = 0;
     while i < 34 {
         copy[i] = byte(image, i);
@@ -228,16 +234,19 @@ fn running_row(image: &[u8], row: usize) -> Line
         19 => line.text(b"  latch      ")
             .hex2(byte(image, places::LATCH))
             .bits(b" first=3 odd=4 tail=5", byte(image, places::OPTIONS)),
-        _ => line.bits(
+        20 => line.bits(
             b"  options    fixc64=0 fixexp=1 load=2",
             byte(image, places::OPTIONS),
         ),
+        _ => line,
     }
 }
 
-// A row of the pane; rows 18 on are empty where no command runs.
-pub fn row(image: &[u8], row: usize) -> Line
-    ensures { λ r. ⌜ textOf r ≡ rowOf (now (image .entry)) row ⌝ }
+// ---- any of them
+
+// What the controller holds; rows 18 on are empty where no command runs.
+fn held_row(image: &[u8], row: usize) -> Line
+    ensures { λ r. ⌜ textOf r ≡ heldRow (now (image .entry)) row ⌝ }
 {
     if row < 11 {
         return register_row(image, row as u8);
@@ -249,4 +258,26 @@ pub fn row(image: &[u8], row: usize) -> Line
         return transfer_row(image);
     }
     running_row(image, row)
+}
+
+// That an image is refused is said in a row of its own, so that beside an accepted one it stands for none of its rows.
+fn refused_row(answer: u32, row: usize) -> Line
+    ensures { λ r. ⌜ textOf r ≡ refusedRow answer row ⌝ }
+{
+    let line = Line::new();
+    if row == 21 {
+        return refusal(line.text(b"image        "), answer).text(b": it holds no controller");
+    }
+    line
+}
+
+// A row of the pane. Every call refuses an image alike: one is asked, and of a refused image no byte is shown.
+pub fn row(image: &[u8], row: usize) -> Line
+    ensures { λ r. ⌜ textOf r ≡ rowOf (now (image .entry)) row ⌝ }
+{
+    let answer = reu::reu_dma_active(image);
+    if is_accepted(answer) {
+        return held_row(image, row);
+    }
+    refused_row(answer, row)
 }

@@ -1,34 +1,22 @@
-use Rattle.pane.specs.Rows.{rowOf}
-use borrow.Author.Tests.{lt-ltb, le-ltb, eq-eqb, ne-eqb}
+use Rattle.pane.proofs.Pane.{shown, refused}
 use borrow.Author.Needs.{needs}
 use Rattle.pane.proofs.rows.row.Statement.{statement}
 use Rattle.pane.proofs.rows.row.Tie as tie
 
 returns : tie.Need-returns
-unfolding rowOf
-returns c = rw (lt-ltb _ _ (c .before .if1 .taken)) (c .register-row .ensures)
+returns c =
+    let its-answer = c .before .before .before .reu-dma-active in
+    shown _ _ (its-answer .ensures) (c .before .before .is-accepted .ensures) (c .before .if1 .taken)
+    (c .held-row .ensures)
 
 returns-2 : tie.Need-returns-2
-unfolding rowOf
 returns-2 c =
-    rw (le-ltb _ _ (c .before .before .if1 .left), lt-ltb _ _ (c .before .if2 .taken)) (c .flags-row .ensures)
-
-returns-3 : tie.Need-returns-3
-unfolding rowOf
-returns-3 c =
-    let its-if1 = c .before .before .before .if1 in
-    rw (le-ltb _ _ (its-if1 .left), le-ltb _ _ (c .before .before .if2 .left), eq-eqb _ _ (c .before .if3 .taken))
-    (c .transfer-row .ensures)
-
-returns-4 : tie.Need-returns-4
-unfolding rowOf
-returns-4 c =
-    let its-if1 = c .before .before .before .if1 in
-    rw (le-ltb _ _ (its-if1 .left), le-ltb _ _ (c .before .before .if2 .left), ne-eqb _ _ (c .before .if3 .left))
-    (c .running-row .ensures)
+    let its-answer = c .before .before .before .reu-dma-active in
+    refused _ _ (its-answer .ensures) (c .before .before .is-accepted .ensures) (c .before .if1 .left)
+    (c .refused-row .ensures)
 
 pub row-spec : {M : Type 1} → statement M
 row-spec =
     tie.close
-    (tie.spec (λ c. search needs) (λ c κs. search needs) returns (λ c κs. search needs) returns-2
-    (λ c κs. search needs) returns-3 (λ c κs. search needs) returns-4)
+    (tie.spec (λ c κs. search needs) (λ c κs. search needs) (λ c κs. search needs) returns
+    (λ c κs. search needs) returns-2)

@@ -41,15 +41,22 @@ unfolding runningRow
 returns-4 c =
     let its-byte = c .before .before .before .before .before .byte in
     let its-if1 = c .before .before .before .before .if1 in
-    let rest = c .before .before .before .match .rest in
+    let its-match = c .before .before .before .match in
+    rw (← its-byte .ensures, ne-eqb _ _ (its-if1 .left), its-match .keys3, ← c .before .byte4 .ensures)
+    (search (needs, then))
+
+returns-5 : tie.Need-returns-5
+unfolding runningRow
+returns-5 c =
+    let rest = c .match .rest in
     rw (
-      ← its-byte .ensures,
-      ne-eqb _ _ (its-if1 .left),
+      ← c .before .before .byte .ensures,
+      ne-eqb _ _ (c .before .if1 .left),
+      ne-eqb _ _ (rest .0 .0 .1),
       ne-eqb _ _ (rest .0 .1),
       ne-eqb _ _ (rest .1),
-      ← c .before .byte4 .ensures,
     )
-    (search (needs, then))
+    (c .before .before .before .new .ensures)
 
 pub running-row-spec : {M : Type 1} → statement M
 running-row-spec =
@@ -58,4 +65,4 @@ running-row-spec =
     (λ c κs. search needs) (λ c κs. search needs) (λ c κs. search needs) (λ c. search needs)
     (λ c κs. search needs) (λ c κs. search needs) (λ c κs. search needs) (λ c. search needs)
     (λ c κs. search needs) (λ c κs. search needs) (λ c. search needs) (λ c κs. search needs)
-    (λ c κs. search needs) returns-2 returns-3 returns-4)
+    (λ c κs. search needs) returns-2 returns-3 returns-4 returns-5)

@@ -1,5 +1,6 @@
 use Rattle.pane.specs.Rows.{spelled}
 use Rattle.pane.proofs.Cuts.{then}
+use Rattle.pane.proofs.Pane.{counter}
 use borrow.Author.Tests.{ne-eqb}
 use borrow.Author.Needs.{needs}
 use Rattle.pane.proofs.rows.spelled.Statement.{statement}
@@ -16,23 +17,32 @@ returns-2 c = rw (c .before .before .match .keys2, ← c .before .byte2 .ensures
 returns-3 : tie.Need-returns-3
 unfolding spelled
 returns-3 c =
-    let its-text = c .before .before .before .text in
-    rw (c .before .before .before .before .before .match .keys3, ← its-text .ensures, ← c .before .before .word .ensures .0, ← c .before .word2 .ensures .0)
-    (c .counter .ensures)
+    let its-second = c .before in
+    let its-first = its-second .before in
+    let its-text = its-first .before in
+    rw (its-text .before .before .match .keys3)
+    (counter _ _ 4 (its-text .text .ensures) (its-first .word .ensures .0) (its-second .word2 .ensures .0)
+    (c .counter .ensures))
 
 returns-4 : tie.Need-returns-4
 unfolding spelled
 returns-4 c =
-    let its-text = c .before .before .before .text2 in
-    rw (c .before .before .before .before .before .match .keys4, ← its-text .ensures, ← c .before .before .long .ensures, ← c .before .long2 .ensures)
-    (c .expansion .ensures)
+    let its-second = c .before in
+    let its-first = its-second .before in
+    let its-text = its-first .before in
+    rw (its-text .before .before .match .keys4)
+    (counter _ _ 6 (its-text .text2 .ensures) (its-first .long .ensures) (its-second .long2 .ensures)
+    (c .expansion .ensures))
 
 returns-5 : tie.Need-returns-5
 unfolding spelled
 returns-5 c =
-    let its-text = c .before .before .before .text3 in
-    rw (c .before .before .before .before .before .match .keys5, ← its-text .ensures, ← c .before .before .word3 .ensures .0, ← c .before .word4 .ensures .0)
-    (c .counter2 .ensures)
+    let its-second = c .before in
+    let its-first = its-second .before in
+    let its-text = its-first .before in
+    rw (its-text .before .before .match .keys5)
+    (counter _ _ 4 (its-text .text3 .ensures) (its-first .word3 .ensures .0) (its-second .word4 .ensures .0)
+    (c .counter2 .ensures))
 
 returns-6 : tie.Need-returns-6
 unfolding spelled

@@ -1,0 +1,45 @@
+-- Which images are refused is what opening them says: of one that is refused no row shows a byte, and every row of another shows what it holds.
+use mathlib.Core.Path.{_≡_}
+use mathlib.Core.Bool.{Bool, true, false, _&&_}
+use mathlib.Core.List.{List}
+use Prim.Native.Nat.{ℕ, _≤_, _<_}
+use native.Mathlib.Omega.{arith}
+use borrow.Author.Tests.{lt-ltb, le-ltb, ne-eqb}
+use Rattle.controller.specs.Bytes.{bitOf}
+use Rattle.controller.specs.Calls.{dmaActiveCall}
+use Rattle.controller.specs.Dma.{active}
+use Rattle.controller.specs.Refusals.{checked, refusalOf, wellFormed}
+use Rattle.image.specs.Layout.{reuAt}
+use Rattle.image.specs.Open.{bytesOk, imageOk, openImage}
+use Rattle.image.proofs.Opening.{opened-is, opened-ok}
+use Rattle.reu.specs.Exports.{code, look, refusal, refusalUnit, reuDmaActive}
+use Rattle.pane.specs.Rows.{heldRow, refusedRow, rowOf}
+
+second : (a b : Bool) → a && b ≡ true → b ≡ true
+second true b p = p
+second false b p = cc
+
+small : (b : Bool) → bitOf b < refusalUnit
+small true = omega arith
+small false = omega arith
+
+module _ (i : List ℕ) (n : ℕ) where
+  pub refused-row : (openImage i .refusal ≡ 0 → ⊥) → rowOf i n ≡ refusedRow (refusal (openImage i .refusal)) n
+  unfolding rowOf look checked
+  refused-row bad =
+      let k = openImage i .refusal in
+      let large : refusalUnit ≤ refusal k = omega arith in
+      rw (ne-eqb k 0 bad, le-ltb (refusal k) refusalUnit large)
+
+  module _ (good : openImage i .refusal ≡ 0) where
+    well : wellFormed (reuAt i) ≡ true
+    unfolding imageOk
+    well = second (bytesOk i) _ (opened-ok i good)
+
+    answer : reuDmaActive i ≡ bitOf (active (reuAt i .dma))
+    unfolding look checked dmaActiveCall refusalOf code
+    answer = rw (opened-is i good, well)
+
+    pub accepted-row : rowOf i n ≡ heldRow i n
+    unfolding rowOf
+    accepted-row = rw (answer, lt-ltb _ refusalUnit (small (active (reuAt i .dma))))
