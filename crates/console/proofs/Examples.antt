@@ -1,15 +1,23 @@
--- Worked examples of the definitions, with what was expected written by hand: bytes stored, faults, BA, and two panes side by side.
+-- Worked examples of the definitions, with what was expected written by hand: bytes stored, faults, BA, two panes side by side, and
+-- what is said of a refused image.
 use mathlib.Core.Path.{_≡_, refl}
 use mathlib.Core.Bool.{true, false}
-use mathlib.Core.List.{[], _∷_}
+use mathlib.Core.List.{List, [], _∷_}
+use Prim.Native.Nat.{ℕ}
 use lib.ListN.{replicate}
+use Rattle.controller.specs.Refusals.{checked}
+use Rattle.image.specs.Open.{bytesOk, imageOk, openImage}
+use Rattle.reu.specs.Exports.{change, look}
 use Rattle.pane.specs.Faults.{faultOf, faultsFrom}
-use Rattle.pane.specs.Shown.{_⊕_, ascii, fillFrom, hexOf}
+use Rattle.pane.specs.Shown.{_⊕_, ascii, decimalUpTo, fillFrom, hexOf}
 use Rattle.pane.specs.Typed.{digitsFrom, keyFrom, numberOf, same, wordFrom, wordsFrom}
+use Rattle.console.specs.declared.clock.Clock.{Clock}
 use Rattle.console.specs.Beside.{besideRow}
 use Rattle.console.specs.Clock.{inputsOf, isPattern}
 use Rattle.console.specs.Commands.{commandFault, isComment, lineFault, otherFault}
 use Rattle.console.specs.Memory.{bytesFrom, bytesLine, bytesText, each, stored, storeFault}
+use Rattle.console.specs.Registers.{readText, warningOf}
+use Rattle.console.specs.Step.{advanced, baText, cycleLine, goOf, runLine, started}
 
 two-bytes : stored (ascii "> $2 11 +34") (replicate 5 0) ≡ 0 ∷ 0 ∷ 0x11 ∷ 0x22 ∷ 0 ∷ []
 unfolding wordsFrom wordFrom numberOf digitsFrom bytesFrom each
@@ -50,3 +58,31 @@ differs = refl
 agrees : besideRow (ascii "DF03 C64 HI  10") 60 (ascii "DF03 C64 HI  10") ≡ []
 unfolding besideRow same
 agrees = refl
+
+-- ---- an image that no controller is: ones alone are out of range
+
+unfoldable bad : List ℕ
+bad = replicate 34 255
+
+-- cycle 5, with BA high
+unfoldable fifth : Clock
+fifth = record { cycle = 5; ba = record { bytes = []; used = 0 }; at = 0 }
+
+-- the grant is refused by 2: the access that was ready is not shown
+refused-cycle :
+    cycleLine fifth record { grant = 33554432; access = 0x21000; offset = 0 } [] [] ≡ ascii "+5  BA high  refused by 2"
+unfolding fifth cycleLine baText decimalUpTo _⊕_
+refused-cycle = refl
+
+refused-run :
+    runLine (goOf 3 (started fifth, bad, [], []) .0) bad ≡ ascii "+0 cycles granted, +0 held: the image is refused by 2"
+unfolding bad fifth goOf advanced runLine look checked openImage imageOk bytesOk decimalUpTo _⊕_
+refused-run = refl
+
+refused-read : readText (ascii "rd DF00") bad ≡ ascii "DF00 is not read: refused by 2"
+unfolding bad readText wordFrom numberOf digitsFrom fillFrom change checked openImage imageOk bytesOk decimalUpTo _⊕_
+refused-read = refl
+
+refused-write : warningOf bad ≡ ascii "(nothing is written: the image is refused by 2)"
+unfolding bad warningOf look checked openImage imageOk bytesOk decimalUpTo _⊕_
+refused-write = refl

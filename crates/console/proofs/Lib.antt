@@ -5,5 +5,6 @@ pub mod Each
 pub mod Examples
 pub mod Letters
 pub mod Outcomes
+pub mod Read
 pub mod Runs
 pub mod Sides

@@ -3,9 +3,9 @@ use Prim.Native.Nat.{ℕ, _/_, _%_}
 use mathlib.Core.Bool.{cond}
 use mathlib.Core.List.{List, []}
 use lib.Dec.{eqb}
-use Rattle.reu.specs.Exports.{reuRead, reuWrite}
+use Rattle.reu.specs.Exports.{reuRead, reuStoragePresent, reuWrite}
+use Rattle.pane.specs.Answers.{accepted, refusedBy}
 use Rattle.pane.specs.Faults.{faultOf, orElse}
-use Rattle.pane.specs.Rows.{byteAt}
 use Rattle.pane.specs.Shown.{_⊕_, ascii, hexOf, fillOf}
 use Rattle.pane.specs.Typed.{numberOf, valueOf, wordOf, wordsOf}
 use Rattle.console.specs.Memory.{address, bytesOf, each, storeFault}
@@ -15,8 +15,11 @@ abbrev pub written : List ℕ → List ℕ → List ℕ
 written t i = each (λ a b j. reuWrite j (a % 65536) b .1) (address t) (bytesOf t) i
 
 -- a read: its line, and what it leaves of the image
-abbrev pub readText : List ℕ → List ℕ → List ℕ
-readText t i = fillOf "% reads " (wordOf 1 t) ⊕ hexOf 2 (reuRead i (address t % 65536) .0 % 256)
+unfoldable pub readText : List ℕ → List ℕ → List ℕ
+readText t i =
+    let answer : ℕ = reuRead i (address t % 65536) .0 in
+    cond (accepted answer) (fillOf "% reads " (wordOf 1 t) ⊕ hexOf 2 (answer % 256))
+    (fillOf "% is not read: " (wordOf 1 t) ⊕ refusedBy answer)
 
 abbrev pub afterRead : List ℕ → List ℕ → List ℕ
 afterRead t i = reuRead i (address t % 65536) .1
@@ -35,7 +38,9 @@ writeFault t = orElse (storeFault t 65535) (placeFault (wordOf 1 t))
 unfoldable pub readFault : List ℕ → List ℕ
 readFault t = cond (eqb (wordsOf t) 2) (placeFault (wordOf 1 t)) (fillOf "usage: % ADDR" (wordOf 0 t))
 
--- no storage was ever attached: bit 2 of the flags
+-- what a write does not show: no storage was ever attached, or the image is refused
 unfoldable pub warningOf : List ℕ → List ℕ
 warningOf i =
-    cond (eqb (byteAt i 18 / 4 % 2) 0) ([] ⊕ ascii "(no storage is attached, so no command runs: enable first)") []
+    cond (eqb (reuStoragePresent i) 0) ([] ⊕ ascii "(no storage is attached, so no command runs: enable first)")
+    (cond (accepted (reuStoragePresent i)) []
+    ([] ⊕ ascii "(nothing is written: the image is " ⊕ refusedBy (reuStoragePresent i) ⊕ ascii ")"))

@@ -4,7 +4,8 @@ use mathlib.Core.Bool.{cond}
 use mathlib.Core.List.{List, [], _∷_}
 use lib.Dec.{eqb}
 use lib.ListN.{getD}
-use Rattle.reu.specs.Exports.{reuBusAction, reuC64Access, reuDmaActive, reuTickDma}
+use Rattle.reu.specs.Exports.{refusalUnit, reuBusAction, reuC64Access, reuDmaActive, reuTickDma}
+use Rattle.pane.specs.Answers.{accepted, refusedBy}
 use Rattle.pane.specs.Rows.{byteAt, longAt}
 use Rattle.pane.specs.Shown.{_⊕_, ascii, decimalOf, hexOf}
 use Rattle.console.specs.declared.clock.Clock.{Clock}
@@ -14,10 +15,12 @@ use Rattle.console.specs.Clock.{inputsOf, letterOf, nextClock}
 
 -- ---- one cycle
 
--- after a grant: the access that is ready, and the storage's offset (bytes 26 to 28 of the image); on Transfer the tick
+-- after a grant: the access that is ready (a refusal has the value 0, which is none), and the storage's offset (bytes 26 to
+-- 28 of the image); on Transfer the tick
 unfoldable pub cycleBy : ℕ → ℕ → List ℕ → (ℕ × List ℕ × List ℕ) → (Cycle × List ℕ × List ℕ × List ℕ)
 cycleBy inputs number m g =
-    let done : Cycle = record { grant = g .0; access = reuC64Access (g .1); offset = longAt (g .1) 26 % 524288 } in
+    let access : ℕ = reuC64Access (g .1) % refusalUnit in
+    let done : Cycle = record { grant = g .0; access = access; offset = longAt (g .1) 26 % 524288 } in
     let k : (ℕ × List ℕ × List ℕ × List ℕ) = reuTickDma (g .1) m (g .2) number (inputs % 2) in
     cond (eqb (g .0) 2) (done, k .1, k .2, k .3) (done, g .1, m, g .2)
 
@@ -35,8 +38,9 @@ baText t letter =
     (cond (eqb letter 102) (t ⊕ ascii "  BA falls ")
     (cond (eqb letter 114) (t ⊕ ascii "  BA rises ") (t ⊕ ascii "  BA " ⊕ (letter ∷ []) ⊕ ascii "     "))))
 
+-- "Cpu, Hold, Transfer 0, 1, 2", or a refusal
 abbrev pub grantText : ℕ → List ℕ
-grantText grant = getD (ascii "Cpu     " ∷ ascii "Hold    " ∷ []) grant (ascii "Transfer")
+grantText grant = getD (ascii "Cpu     " ∷ ascii "Hold    " ∷ ascii "Transfer" ∷ []) grant (refusedBy grant)
 
 -- "65,536 times 1 for a read and 2 for a write, plus the address"
 unfoldable pub accessText : List ℕ → ℕ → List ℕ
@@ -52,11 +56,11 @@ bytesThere t done m s =
     (t ⊕ ascii "  bus " ⊕ hexOf 2 (byteAt m (done .access % 65536)) ⊕ ascii "  storage " ⊕ hexOf 5 (done .offset)
     ⊕ ascii " " ⊕ hexOf 2 (byteAt s (done .offset)))
 
--- its number, BA, the grant, the access and the bytes
+-- its number, BA and the grant; then the access and the bytes, which a refused cycle has not
 unfoldable pub cycleLine : Clock → Cycle → List ℕ → List ℕ → List ℕ
 cycleLine c done m s =
-    bytesThere (accessText (baText ([] ⊕ decimalOf (c .cycle)) (letterOf c) ⊕ grantText (done .grant)) (done .access))
-    done m s
+    let t : List ℕ = baText ([] ⊕ decimalOf (c .cycle)) (letterOf c) ⊕ grantText (done .grant) in
+    cond (accepted (done .grant)) (bytesThere (accessText t (done .access)) done m s) t
 
 -- ---- until the command ends
 
@@ -67,19 +71,20 @@ Running = Run × List ℕ × List ℕ × List ℕ
 abbrev pub started : Clock → Run
 started c = record { clock = c; granted = 0; held = 0 }
 
--- a cycle more; 64 bits
+-- a cycle more; 64 bits. One that is refused is none
 unfoldable pub counted : Run → ℕ → Run
 counted r grant =
     cond (eqb grant 2)
     record { clock = nextClock (r .clock); granted = (r .granted + 1) % 2 ^ 64; held = r .held }
-    record { clock = nextClock (r .clock); granted = r .granted; held = (r .held + 1) % 2 ^ 64 }
+    (cond (accepted grant)
+    record { clock = nextClock (r .clock); granted = r .granted; held = (r .held + 1) % 2 ^ 64 } r)
 
--- a cycle, unless the command has ended
+-- a cycle while a command runs: none once it has ended, and none of a refused image
 unfoldable pub advanced : Running → Running
 advanced x =
     let c : Clock = x .0 .clock in
     let y : (Cycle × List ℕ × List ℕ × List ℕ) = cycleOf (inputsOf (letterOf c)) (c .cycle) (x .1) (x .2) (x .3) in
-    cond (eqb (reuDmaActive (x .1)) 0) x (counted (x .0) (y .0 .grant), y .1, y .2, y .3)
+    cond (eqb (reuDmaActive (x .1)) 1) (counted (x .0) (y .0 .grant), y .1, y .2, y .3) x
 
 unfoldable pub goOf : ℕ → Running → Running
 goOf zero x = x
@@ -89,4 +94,5 @@ unfoldable pub runLine : Run → List ℕ → List ℕ
 runLine r i =
     let t : List ℕ = [] ⊕ decimalOf (r .granted) ⊕ ascii " cycles granted, " ⊕ decimalOf (r .held) in
     cond (eqb (reuDmaActive i) 0) (t ⊕ ascii " held: the command has ended")
-    (t ⊕ ascii " held: at the limit, and the command still runs")
+    (cond (accepted (reuDmaActive i)) (t ⊕ ascii " held: at the limit, and the command still runs")
+    (t ⊕ ascii " held: the image is " ⊕ refusedBy (reuDmaActive i)))

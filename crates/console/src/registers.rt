@@ -2,12 +2,12 @@
 use crate::memory::address_of;
 use crate::memory::byte_of;
 use crate::memory::store_fault;
+use pane::answers::is_accepted;
+use pane::answers::refusal;
 use pane::faults::fault;
 use pane::faults::value;
 use pane::line::Line;
 use pane::line::fill;
-use pane::places::FLAGS;
-use pane::rows::byte;
 ghost use mathlib.Core.Path.{_≡_};
 ghost use Rattle.pane.specs.Shown.{textOf};
 ghost use Rattle.console.specs.Registers.{afterRead, placeFault, readFault, readText, warningOf, writeFault, written};
@@ -59,21 +59,29 @@ pub fn write(line: Line, image: &mut [u8])
     }
 }
 
-// What a read gives, as a line.
+// What a read gives, as a line, or that it was refused.
 pub fn read(line: Line, image: &mut [u8]) -> Line
     ensures { λ r. ⌜ textOf r ≡ readText (textOf line) (now (image .entry)) ⌝ }
     ensures { λ r. ⌜ now (image .exit) ≡ afterRead (textOf line) (now (image .entry)) ⌝ }
 {
-    let got = reu::reu_read(image, (address_of(line) % 65536) as u16);
-    fill(b"% reads ", line.word(1)).hex2((got % 256) as u8)
+    let answer = reu::reu_read(image, (address_of(line) % 65536) as u16);
+    if is_accepted(answer) {
+        return fill(b"% reads ", line.word(1)).hex2((answer % 256) as u8);
+    }
+    refusal(fill(b"% is not read: ", line.word(1)), answer)
 }
 
-// Without storage no command can run, which a newcomer may not expect.
+// Without storage no command can run, which a newcomer may not expect; and a refused image takes no write.
 pub fn warning(image: &[u8]) -> Line
     ensures { λ r. ⌜ textOf r ≡ warningOf (now (image .entry)) ⌝ }
 {
-    if byte(image, FLAGS) / 4 % 2 == 0 {
-        return Line::new().text(b"(no storage is attached, so no command runs: enable first)");
+    let line = Line::new();
+    let present = reu::reu_storage_present(image);
+    if present == 0 {
+        return line.text(b"(no storage is attached, so no command runs: enable first)");
     }
-    Line::new()
+    if is_accepted(present) {
+        return line;
+    }
+    refusal(line.text(b"(nothing is written: the image is "), present).put(b')')
 }

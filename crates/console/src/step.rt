@@ -1,5 +1,8 @@
 // Bus cycles: one by one, or until the command ends.
 use crate::clock::Clock;
+use pane::answers::REFUSAL_UNIT;
+use pane::answers::is_accepted;
+use pane::answers::refusal;
 use pane::line::Line;
 use pane::rows::byte;
 use pane::rows::transfer_expansion;
@@ -11,7 +14,8 @@ const TRANSFER: u32 = 2;
 
 const STORAGE_SIZE: u32 = 524288;
 
-// What a cycle was granted, the access to the bus that the controller had ready, and the offset in the storage.
+// What a cycle was granted, or that it was refused, the access to the bus that the controller had ready, and the offset in the
+// storage.
 pub struct Cycle {
     pub grant: u32,
     pub access: u32,
@@ -32,7 +36,7 @@ pub fn run_cycle(
     let phi1 = (inputs / 2 % 2) as u32;
     let low = (inputs % 2) as u32;
     let grant = reu::reu_bus_action(image, storage, high, phi1, number);
-    let access = reu::reu_c64_access(image);
+    let access = reu::reu_c64_access(image) % REFUSAL_UNIT;
     let offset = transfer_expansion(image) % STORAGE_SIZE;
     if grant == TRANSFER {
         reu::reu_tick_dma(image, bus, storage, number, low);
@@ -64,7 +68,8 @@ fn grant_text(line: Line, grant: u32) -> Line
     match grant {
         0 => line.text(b"Cpu     "),
         1 => line.text(b"Hold    "),
-        _ => line.text(b"Transfer"),
+        2 => line.text(b"Transfer"),
+        _ => refusal(line, grant),
     }
 }
 
@@ -96,13 +101,16 @@ fn bytes_there(line: Line, done: Cycle, bus: &[u8], storage: &[u8]) -> Line
         .hex2(byte(storage, offset))
 }
 
-// A cycle by its number, BA, the grant, the access and the bytes.
+// A cycle by its number, BA, the grant, the access and the bytes; a refused one made no access.
 pub fn cycle_line(clock: Clock, done: Cycle, bus: &[u8], storage: &[u8]) -> Line
     ensures { λ r. ⌜ textOf r ≡ cycleLine clock done (now (bus .entry)) (now (storage .entry)) ⌝ }
 {
     let line = ba_text(Line::new().decimal(clock.cycle), clock.letter());
-    let granted = access_text(grant_text(line, done.grant), done.access);
-    bytes_there(granted, done, bus, storage)
+    let granted = grant_text(line, done.grant);
+    if is_accepted(done.grant) {
+        return bytes_there(access_text(granted, done.access), done, bus, storage);
+    }
+    granted
 }
 
 // ---- until the command ends
@@ -114,7 +122,7 @@ pub struct Run {
     pub held: u64,
 }
 
-// A cycle more.
+// A cycle more, unless it was refused.
 fn count(run: Run, grant: u32) -> Run
     ensures { λ r. ⌜ r ≡ counted run grant ⌝ }
 {
@@ -127,6 +135,9 @@ fn count(run: Run, grant: u32) -> Run
             held: run.held,
         };
     }
+    if !is_accepted(grant) {
+        return run;
+    }
     let held = std::num::wrapping_add_u64(run.held, 1);
     Run {
         clock,
@@ -135,11 +146,11 @@ fn count(run: Run, grant: u32) -> Run
     }
 }
 
-// A cycle, unless the command has ended.
+// A cycle, while a command runs.
 fn advance(run: Run, image: &mut [u8], bus: &mut [u8], storage: &mut [u8]) -> Run
     ensures { λ r. ⌜ (r, now (image .exit), now (bus .exit), now (storage .exit)) ≡ advanced (run, now (image .entry), now (bus .entry), now (storage .entry)) ⌝ }
 {
-    if reu::reu_dma_active(image) == 0 {
+    if reu::reu_dma_active(image) != 1 {
         return run;
     }
     let clock = run.clock;
@@ -172,8 +183,12 @@ pub fn run_line(run: Run, image: &[u8]) -> Line
         .decimal(run.granted)
         .text(b" cycles granted, ")
         .decimal(run.held);
-    if reu::reu_dma_active(image) == 0 {
+    let active = reu::reu_dma_active(image);
+    if active == 0 {
         return line.text(b" held: the command has ended");
     }
-    line.text(b" held: at the limit, and the command still runs")
+    if is_accepted(active) {
+        return line.text(b" held: at the limit, and the command still runs");
+    }
+    refusal(line.text(b" held: the image is "), active)
 }

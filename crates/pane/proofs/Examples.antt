@@ -118,11 +118,11 @@ unfolding image rowOf heldRow runningRow
 accepted-says-nothing = rw runs
 
 -- a refused one has no row but that
-refused-short : rowOf (replicate 33 0) 21 ≡ ascii "image        refused by 1: it holds no controller"
+refused-short : rowOf (replicate 33 0) 21 ≡ ascii "image        refused by 1: no controller"
 unfolding rowOf refusedRow decimalUpTo _⊕_
 refused-short = rw too-short
 
-refused-range : rowOf (replicate 34 255) 21 ≡ ascii "image        refused by 2: it holds no controller"
+refused-range : rowOf (replicate 34 255) 21 ≡ ascii "image        refused by 2: no controller"
 unfolding rowOf refusedRow decimalUpTo _⊕_
 refused-range = rw out-of-range
 

@@ -106,7 +106,7 @@ heldRow i n =
 -- of a refused image one row says so, which an accepted one has not; no bytes in the others
 unfoldable pub refusedRow : ℕ → ℕ → List ℕ
 refusedRow answer n =
-    cond (eqb n 21) ([] ⊕ ascii "image        " ⊕ refusedBy answer ⊕ ascii ": it holds no controller") []
+    cond (eqb n 21) ([] ⊕ ascii "image        " ⊕ refusedBy answer ⊕ ascii ": no controller") []
 
 -- every call refuses an image alike: one is asked
 unfoldable pub rowOf : List ℕ → ℕ → List ℕ

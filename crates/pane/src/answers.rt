@@ -5,7 +5,7 @@ ghost use Rattle.pane.specs.Answers.{accepted, refusedBy};
 ghost use Rattle.pane.specs.Shown.{_⊕_, textOf};
 
 // An answer of this or more is a refusal.
-const REFUSAL_UNIT: u32 = 16777216;
+pub const REFUSAL_UNIT: u32 = 16777216;
 
 pub fn is_accepted(answer: u32) -> bool
     ensures { λ r. ⌜ r ≡ accepted answer ⌝ }

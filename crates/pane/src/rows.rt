@@ -266,7 +266,7 @@ fn refused_row(answer: u32, row: usize) -> Line
 {
     let line = Line::new();
     if row == 21 {
-        return refusal(line.text(b"image        "), answer).text(b": it holds no controller");
+        return refusal(line.text(b"image        "), answer).text(b": no controller");
     }
     line
 }

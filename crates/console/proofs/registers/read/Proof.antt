@@ -1,25 +1,36 @@
-use Rattle.reu.specs.Exports.{reuRead}
-use Prim.Native.Nat.{ℕ, _%_}
-use mathlib.Core.Path.{_∙_, ap}
-use mathlib.Core.List.{List}
-use Rattle.pane.proofs.Cuts.{then}
+use Rattle.console.proofs.Read.{given, leaves, refused}
 use borrow.Author.Needs.{needs}
 use Rattle.console.proofs.registers.read.Statement.{statement}
 use Rattle.console.proofs.registers.read.Tie as tie
 
 returns : tie.Need-returns
 returns c =
-    let its-image = c .before .before .before .before .before .before .before .before .before .before .args .image in
-    let its-address = c .before .before .before .before .before .before .before .address-of in
-    let its-read = c .before .before .before .before .before .before .reu-read in
-    let got = its-read .ensures ∙ ap (λ (a : ℕ). reuRead (its-image .now) (a % 65536)) (its-address .ensures .0) in (
-      rw (← ap (λ (x : ℕ × List ℕ). x .0) got, ← c .before .before .word .ensures) (search (needs, then)),
-      ap (λ (x : ℕ × List ℕ). x .1) got,
+    let its-word = c .before .before in
+    let its-if1 = its-word .before .before in
+    let its-read = its-if1 .before .before .before .before in
+    let its-address = its-read .before .address-of .ensures .0 in
+    let answered = its-read .reu-read .ensures in
+    let test = its-if1 .before .is-accepted .ensures in (
+      given _ _ its-address answered test (its-word .word .ensures) (its-if1 .if1 .taken) (c .before .fill .ensures) (c .hex2 .ensures),
+      leaves _ _ its-address answered,
+    )
+
+returns-2 : tie.Need-returns-2
+returns-2 c =
+    let its-word = c .before .before in
+    let its-if1 = its-word .before .before in
+    let its-read = its-if1 .before .before .before .before in
+    let its-address = its-read .before .address-of .ensures .0 in
+    let answered = its-read .reu-read .ensures in
+    let test = its-if1 .before .is-accepted .ensures in (
+      refused _ _ its-address answered test (its-word .word2 .ensures) (its-if1 .if1 .left) (c .before .fill2 .ensures) (c .refusal .ensures),
+      leaves _ _ its-address answered,
     )
 
 pub read-spec : {M : Type 1} → statement M
 read-spec =
     tie.close
-    (tie.spec (λ c κs. search needs) (λ c. search needs) (λ c κs. search needs) (λ c. search needs)
-    (λ c κs. search needs) (λ c κs. search needs) (λ c. search needs) (λ c κs. search needs) (λ c. search needs)
-    returns)
+    (tie.spec (λ c κs. search needs) (λ c. search needs) (λ c κs. search needs) (λ c κs. search needs)
+    (λ c. search needs) (λ c κs. search needs) (λ c κs. search needs) (λ c. search needs) (λ c κs. search needs)
+    (λ c. search needs) returns (λ c. search needs) (λ c κs. search needs) (λ c κs. search needs)
+    (λ c κs. search needs) (λ c. search needs) returns-2)

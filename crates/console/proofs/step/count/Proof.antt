@@ -1,5 +1,6 @@
+use mathlib.Core.Path.{sym, _∙_}
 use Rattle.console.specs.Step.{counted}
-use borrow.Author.Tests.{eq-eqb, ne-eqb}
+use borrow.Author.Tests.{eq-eqb, ne-eqb, not-true, not-false}
 use borrow.Author.Needs.{needs}
 use Rattle.console.proofs.step.count.Statement.{statement}
 use Rattle.console.proofs.step.count.Tie as tie
@@ -12,9 +13,23 @@ returns c =
 returns-2 : tie.Need-returns-2
 unfolding counted
 returns-2 c =
-    rw (ne-eqb _ _ (c .before .if1 .left), c .before .before .next .ensures, c .wrapping-add-u642 .ensures)
+    let its-accepted = c .before in
+    rw (ne-eqb _ _ (its-accepted .before .if1 .left), sym (its-accepted .is-accepted .ensures) ∙ not-true _ (c .if2 .taken))
+
+returns-3 : tie.Need-returns-3
+unfolding counted
+returns-3 c =
+    let its-accepted = c .before .before in
+    let its-if1 = its-accepted .before in
+    rw (
+      ne-eqb _ _ (its-if1 .if1 .left),
+      sym (its-accepted .is-accepted .ensures) ∙ not-false _ (c .before .if2 .left),
+      its-if1 .before .next .ensures,
+      c .wrapping-add-u642 .ensures,
+    )
 
 pub count-spec : {M : Type 1} → statement M
 count-spec =
     tie.close
-    (tie.spec (λ c κs. search needs) (λ c κs. search needs) returns (λ c κs. search needs) returns-2)
+    (tie.spec (λ c κs. search needs) (λ c κs. search needs) returns (λ c κs. search needs) returns-2
+    (λ c κs. search needs) returns-3)

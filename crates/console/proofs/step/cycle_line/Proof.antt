@@ -1,27 +1,37 @@
-use Rattle.console.specs.Step.{cycleLine}
+use Rattle.console.proofs.Runs.{made, refused}
 use borrow.Author.Needs.{needs}
 use Rattle.console.proofs.step.cycle_line.Statement.{statement}
 use Rattle.console.proofs.step.cycle_line.Tie as tie
 
 returns : tie.Need-returns
-unfolding cycleLine
 returns c =
-    let its-ba-text = c .before .before .before .ba-text in
-    let its-letter = c .before .before .before .before .letter in
-    let its-decimal = c .before .before .before .before .before .decimal in
-    let its-new = c .before .before .before .before .before .before .new in
-    rw (
-      c .bytes-there .ensures,
-      c .before .access-text .ensures,
-      c .before .before .grant-text .ensures,
-      its-ba-text .ensures,
-      its-letter .ensures,
-      its-decimal .ensures,
-      its-new .ensures,
-    )
+    let its-if1 = c .before .before in
+    let its-test = its-if1 .before in
+    let its-grant = its-test .before in
+    let its-ba = its-grant .before in
+    let its-letter = its-ba .before in
+    let its-number = its-letter .before in
+    let its-new = its-number .before in
+    let its-args = its-new .before .before .before .args in
+    made (its-args .clock) (its-args .done) _ _ (its-new .new .ensures) (its-number .decimal .ensures)
+    (its-letter .letter .ensures) (its-ba .ba-text .ensures) (its-grant .grant-text .ensures)
+    (its-test .is-accepted .ensures) (its-if1 .if1 .taken) (c .before .access-text .ensures) (c .bytes-there .ensures)
+
+returns-2 : tie.Need-returns-2
+returns-2 c =
+    let its-test = c .before in
+    let its-grant = its-test .before in
+    let its-ba = its-grant .before in
+    let its-letter = its-ba .before in
+    let its-number = its-letter .before in
+    let its-new = its-number .before in
+    let its-args = its-new .before .before .before .args in
+    refused (its-args .clock) (its-args .done) _ _ (its-new .new .ensures) (its-number .decimal .ensures)
+    (its-letter .letter .ensures) (its-ba .ba-text .ensures) (its-grant .grant-text .ensures)
+    (its-test .is-accepted .ensures) (c .if1 .left)
 
 pub cycle-line-spec : {M : Type 1} → statement M
 cycle-line-spec =
     tie.close
     (tie.spec (λ c κs. search needs) (λ c κs. search needs) (λ c κs. search needs) (λ c κs. search needs)
-    (λ c κs. search needs) (λ c κs. search needs) (λ c κs. search needs) returns)
+    (λ c κs. search needs) (λ c κs. search needs) (λ c κs. search needs) (λ c κs. search needs) returns returns-2)

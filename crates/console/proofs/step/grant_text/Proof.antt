@@ -14,13 +14,16 @@ returns-2 : tie.Need-returns-2
 returns-2 c = entry grantText _ (c .before .before .match .keys2) (search (needs, then))
 
 returns-3 : tie.Need-returns-3
-returns-3 c =
-    let it = c .before .before .before .args .grant in
-    let h : 2 ≤ it = past 2 it (c .before .before .match .rest) in
-    rw List·getD-eq-default (search (needs, then))
+returns-3 c = entry grantText _ (c .before .before .match .keys3) (search (needs, then))
+
+returns-4 : tie.Need-returns-4
+returns-4 c =
+    let it = c .before .before .args .grant in
+    let h : 3 ≤ it = past 3 it (c .before .match .rest) in
+    rw List·getD-eq-default (c .refusal .ensures)
 
 pub grant-text-spec : {M : Type 1} → statement M
 grant-text-spec =
     tie.close
     (tie.spec (λ c. search needs) (λ c κs. search needs) (λ c. search needs) (λ c κs. search needs)
-    (λ c. search needs) (λ c κs. search needs) returns returns-2 returns-3)
+    (λ c. search needs) (λ c κs. search needs) (λ c κs. search needs) returns returns-2 returns-3 returns-4)
