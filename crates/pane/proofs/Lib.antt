@@ -1,3 +1,4 @@
+pub mod Bits
 pub mod Copies
 pub mod Cuts
 pub mod Decimals

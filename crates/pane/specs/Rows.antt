@@ -1,24 +1,25 @@
 -- The register pane, row by row: which bytes of an image each row shows, and how they are spelled.
 -- The places of the bytes are those of document 01's image record.
-use Prim.Native.Nat.{ℕ, _+_, _*_, _%_}
+use Prim.Native.Nat.{ℕ, _+_, _%_}
 use mathlib.Core.Bool.{cond}
 use mathlib.Core.List.{List, [], _∷_}
 use lib.Dec.{eqb, ltb}
 use lib.ListN.{getD, length, replicate}
+use Rattle.controller.specs.Bytes.{long, word}
 use Rattle.reu.specs.Exports.{reuDebugRegister, reuDmaActive, reuRead}
 use Rattle.pane.specs.Answers.{accepted, refusedBy}
 use Rattle.pane.specs.Shown.{_⊕_, ascii, bitsOf, hexOf}
 
--- ---- numbers of one, two and three bytes, low byte first
+-- ---- the numbers of one, two and three bytes that stand at a place
 
 abbrev pub byteAt : List ℕ → ℕ → ℕ
 byteAt i p = getD i p 0
 
 abbrev pub wordAt : List ℕ → ℕ → ℕ
-wordAt i p = byteAt i p + 256 * byteAt i (p + 1)
+wordAt i p = word (byteAt i p) (byteAt i (p + 1))
 
 abbrev pub longAt : List ℕ → ℕ → ℕ
-longAt i p = wordAt i p + 65536 * byteAt i (p + 2)
+longAt i p = long (byteAt i p) (byteAt i (p + 1)) (byteAt i (p + 2))
 
 -- ---- registers
 

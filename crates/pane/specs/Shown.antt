@@ -1,11 +1,12 @@
 -- A line as text, and what is put into one.
-use Prim.Native.Nat.{ℕ, zero, suc, _+_, _-_, _/_, _%_, _^_}
+use Prim.Native.Nat.{ℕ, zero, suc, _+_, _-_, _/_, _%_}
 use Prim.Native.Char.{Char, code}
 use Prim.Native.String.{String, [] as []ˢ, _∷_ as _∷ˢ_}
 use mathlib.Core.Bool.{Bool, false, cond}
 use mathlib.Core.List.{List, [], _∷_, _++_}
 use lib.Dec.{ltb, eqb}
 use lib.ListN.{length, take, replicate}
+use Rattle.controller.specs.Bytes.{bit, bitOf}
 use Rattle.pane.specs.declared.line.Line.{Line}
 
 -- the bytes of a quoted text
@@ -48,14 +49,10 @@ decimalOf n = 43 ∷ decimalUpTo 20 n
 
 -- ---- templates
 
--- a bit of a byte, by its number
-abbrev pub bit : ℕ → ℕ → ℕ
-bit b n = b / 2 ^ n % 2
-
 -- a template in which a digit right after = is a bit's number, and that bit of b stands in its place; `named` says that = came last
 unfoldable pub bitsFrom : Bool → List ℕ → ℕ → List ℕ
 bitsFrom named [] b = []
-bitsFrom named (c ∷ s) b = cond named (48 + bit b (c - 48)) c ∷ bitsFrom (eqb c 61) s b
+bitsFrom named (c ∷ s) b = cond named (48 + bitOf (bit b (c - 48))) c ∷ bitsFrom (eqb c 61) s b
 
 abbrev pub bitsOf : String → ℕ → List ℕ
 bitsOf template b = bitsFrom false (ascii template) b

@@ -7,7 +7,8 @@ ghost use mathlib.Core.List.{_∷_, []};
 ghost use Prim.Native.Nat.{_+_, _-_, _≤_};
 ghost use lib.Dec.{eqb};
 ghost use lib.ListN.{length, take, drop, getD};
-ghost use Rattle.pane.specs.Shown.{_⊕_, bit, bitsFrom, decimalOf, decimalUpTo, fillFrom, hexDigit, hexOf, padded, textOf};
+ghost use Rattle.controller.specs.Bytes.{bit, bitOf};
+ghost use Rattle.pane.specs.Shown.{_⊕_, bitsFrom, decimalOf, decimalUpTo, fillFrom, hexDigit, hexOf, padded, textOf};
 ghost use Rattle.pane.specs.Typed.{isBlank, keyOf, numberOf, wordOf, wordsOf};
 ghost use Rattle.pane.specs.Typed.{same as Typed·same};
 
@@ -51,7 +52,7 @@ fn wide(byte: u8) -> u64
 
 // The bit with a number.
 fn bit_at(byte: u8, number: u8) -> u8
-    ensures { λ r. ⌜ r ≡ bit byte number ⌝ }
+    ensures { λ r. ⌜ r ≡ bitOf (bit byte number) ⌝ }
     ensures { λ r. ⌜ r ≤ 1 ⌝ }
 {
     if number < 8 { (byte >> number) % 2 } else { 0 }
@@ -66,7 +67,7 @@ fn after_zero(digit: u8) -> u8
 
 // A character of a template: the bit that it names, or itself.
 fn shown(named: bool, template: u8, byte: u8) -> u8
-    ensures { λ r. ⌜ r ≡ cond named (48 + bit byte (template - 48)) template ⌝ }
+    ensures { λ r. ⌜ r ≡ cond named (48 + bitOf (bit byte (template - 48))) template ⌝ }
 {
     if !named {
         return template;
