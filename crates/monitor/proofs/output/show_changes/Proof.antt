@@ -5,10 +5,10 @@ use Rattle.monitor.proofs.output.show_changes.Statement.{statement}
 use Rattle.monitor.proofs.output.show_changes.Tie as tie
 
 abbrev Inv-loop : tie.InvT-loop
-Inv-loop image before colour any₀ i₀ any i = i ≤ 21
+Inv-loop image before colour any₀ i₀ any i = i ≤ 22
 
 abbrev μ-loop : tie.MeasureT-loop
-μ-loop image before colour any₀ i₀ any i = 21 - i
+μ-loop image before colour any₀ i₀ any i = 22 - i
 
 pub show-changes-spec : {M : Type 1} → statement M
 show-changes-spec = tie.close (tie.spec Inv-loop μ-loop (λ c. search needs) (λ c κs. search needs) (λ c κs. search needs) (λ c κs. search needs) (λ c κs. search needs) (λ c κs. search needs) (λ c. omega arith) (λ c. omega arith) (λ c. search needs) (λ c. search needs))
