@@ -1,9 +1,11 @@
 -- Which images are refused is what opening them says: of one that is refused no row shows a byte, and every row of another shows what it holds.
 use mathlib.Core.Path.{_≡_}
-use mathlib.Core.Bool.{Bool, true, false, _&&_}
+use mathlib.Core.Bool.{Bool, true, false, cond, _&&_}
 use mathlib.Core.List.{List}
 use Prim.Native.Nat.{ℕ, _≤_, _<_}
 use native.Mathlib.Omega.{arith}
+use lib.Dec.{eqb}
+use lib.ListN.{length, replicate}
 use borrow.Author.Tests.{lt-ltb, le-ltb, ne-eqb}
 use Rattle.controller.specs.Bytes.{bitOf}
 use Rattle.controller.specs.Calls.{dmaActiveCall}
@@ -13,7 +15,7 @@ use Rattle.image.specs.Layout.{reuAt}
 use Rattle.image.specs.Open.{bytesOk, imageOk, openImage}
 use Rattle.image.proofs.Opening.{opened-is, opened-ok}
 use Rattle.reu.specs.Exports.{code, look, refusal, refusalUnit, reuDmaActive}
-use Rattle.pane.specs.Rows.{heldRow, refusedRow, rowOf}
+use Rattle.pane.specs.Rows.{copyOf, heldRow, refusedRow, rowOf}
 
 second : (a b : Bool) → a && b ≡ true → b ≡ true
 second true b p = p
@@ -43,3 +45,12 @@ module _ (i : List ℕ) (n : ℕ) where
     pub accepted-row : rowOf i n ≡ heldRow i n
     unfolding rowOf
     accepted-row = rw (answer, lt-ltb _ refusalUnit (small (active (reuAt i .dma))))
+
+-- a copy of a refused image, kept to be shown as what was there before, is refused too
+kept : (b : Bool) (i : List ℕ) → (openImage i .refusal ≡ 0 → ⊥) → openImage (cond b i (replicate 34 255)) .refusal ≡ 0 → ⊥
+unfolding openImage imageOk bytesOk
+kept true i bad = bad
+kept false i bad = λ z. omega arith
+
+pub refused-copy : (i : List ℕ) → (openImage i .refusal ≡ 0 → ⊥) → openImage (copyOf i) .refusal ≡ 0 → ⊥
+refused-copy i = kept (eqb (length i) 34) i
