@@ -40,7 +40,7 @@ module _ (i : List ℕ) (n : ℕ) where
 
     answer : reuDmaActive i ≡ bitOf (active (reuAt i .dma))
     unfolding look checked dmaActiveCall refusalOf code
-    answer = rw (opened-is i good, well)
+    answer = rw (opened-is i good, well) (omega arith)
 
     pub accepted-row : rowOf i n ≡ heldRow i n
     unfolding rowOf
