@@ -21,8 +21,8 @@ use Rattle.image.specs.Valid.{Bytes}
 use Rattle.reu.specs.Exports.{flag, refusal, reuBusAction, reuCycle}
 use Rattle.reu.proofs.Families.{storage-refused, both-refused}
 use Rattle.claims.proofs.Accepted.{bus-action-is, tick-is, cycle-is}
-use Rattle.claims.proofs.Sound.{Sound, SoundPair, sound-grant}
-use Rattle.claims.proofs.Valid.{open-sound, pack-back}
+use Rattle.image.proofs.Sound.{Sound, SoundPair, sound-grant}
+use Rattle.image.proofs.Valid.{open-sound, pack-back}
 use Rattle.console.specs.Step.{cycleBy, cycleOf}
 
 -- the image, the bus and the storage, whatever was answered
