@@ -10,7 +10,7 @@ use Rattle.image.specs.Open.{bytesOk, imageOk, openImage}
 use Rattle.reu.specs.Exports.{change, look}
 use Rattle.pane.specs.Faults.{faultOf, faultsFrom}
 use Rattle.pane.specs.Shown.{_⊕_, ascii, decimalUpTo, fillFrom, hexOf}
-use Rattle.pane.specs.Typed.{digitsFrom, keyFrom, numberOf, same, wordFrom, wordsFrom}
+use Rattle.pane.specs.Typed.{digitsFrom, numberOf, same, wordFrom, wordsFrom}
 use Rattle.console.specs.declared.clock.Clock.{Clock}
 use Rattle.console.specs.Beside.{besideRow}
 use Rattle.console.specs.Clock.{inputsOf, isPattern}
@@ -28,11 +28,11 @@ unfolding bytesText hexOf _⊕_
 shown-again = refl
 
 past-the-end : lineFault (ascii "> FFFF 1 2") ≡ ascii "> runs past the last address"
-unfolding lineFault isComment commandFault storeFault faultOf faultsFrom fillFrom keyFrom wordsFrom wordFrom numberOf digitsFrom _⊕_
+unfolding lineFault isComment commandFault storeFault faultOf faultsFrom fillFrom same wordsFrom wordFrom numberOf digitsFrom _⊕_
 past-the-end = refl
 
 no-command : lineFault (ascii "jump 1000") ≡ ascii "unknown command: jump (help lists them)"
-unfolding lineFault isComment commandFault otherFault fillFrom keyFrom wordsFrom wordFrom _⊕_
+unfolding lineFault isComment commandFault otherFault fillFrom same wordsFrom wordFrom _⊕_
 no-command = refl
 
 a-comment : lineFault (ascii "# jump") ≡ []

@@ -1,10 +1,13 @@
 pub mod Bytes
 pub mod Choices
+pub mod Copies
 pub mod Cycles
 pub mod Each
 pub mod Examples
 pub mod Letters
+pub mod Names
 pub mod Outcomes
 pub mod Read
 pub mod Runs
 pub mod Sides
+pub mod Turns

@@ -7,8 +7,8 @@ use Rattle.reu.specs.Exports.{reuDmaActive}
 use Rattle.pane.specs.Shown.{_⊕_, ascii}
 use Rattle.console.specs.declared.clock.Clock.{Clock}
 use Rattle.console.specs.declared.step.Cycle.{Cycle}
-use Rattle.console.specs.Apply.{Outcome, Time, countOr, goOutcome, stepOutcome, timeOf}
-use Rattle.console.specs.Clock.{inputsOf, letterOf, nextClock}
+use Rattle.console.specs.Apply.{Outcome, countOr, goOutcome, stepOutcome}
+use Rattle.console.specs.Clock.{Time, inputsOf, letterOf, nextClock, timeOf}
 use Rattle.console.specs.Step.{Running, cycleLine, cycleOf, goOf, runLine, started}
 
 -- the time, what is said, the image, the bus and the storage

@@ -2,7 +2,7 @@
 -- t is the line that was typed, c the time.
 use Prim.Native.Nat.{ℕ, _/_}
 use mathlib.Core.Bool.{cond}
-use mathlib.Core.List.{List, []}
+use mathlib.Core.List.{List, [], _∷_}
 use lib.Dec.{eqb}
 use Rattle.controller.specs.Memory.{zeros}
 use Rattle.reu.specs.Exports.{reuDmaActive, reuNew, reuReset, reuSetEnabled, reuTriggerFf00}
@@ -10,18 +10,11 @@ use Rattle.pane.specs.Shown.{_⊕_, ascii, decimalOf, textOf}
 use Rattle.pane.specs.Typed.{numberOf, valueOf, wordOf, wordsOf}
 use Rattle.console.specs.declared.clock.Clock.{Clock}
 use Rattle.console.specs.declared.step.Cycle.{Cycle}
-use Rattle.console.specs.Clock.{inputsOf, letterOf, nextClock}
-use Rattle.console.specs.Commands.{is}
+use Rattle.console.specs.Clock.{Time, inputsOf, letterOf, nextClock, timeOf}
+use Rattle.console.specs.Commands.{is, oneOf}
 use Rattle.console.specs.Memory.{address, stored}
 use Rattle.console.specs.Registers.{afterRead, readText, warningOf, written}
 use Rattle.console.specs.Step.{Running, cycleLine, cycleOf, goOf, runLine, started}
-
--- the time: the next cycle's number, BA's letters, and the place of the next one
-abbrev pub Time : Type 0
-Time = ℕ × List ℕ × ℕ
-
-abbrev pub timeOf : Clock → Time
-timeOf c = (c .cycle, textOf (c .ba), c .at)
 
 -- the time, what is said, the image, the bus and the storage
 abbrev pub Outcome : Type 0
@@ -56,20 +49,19 @@ goOutcome t c i m s =
     cond (eqb (reuDmaActive i) 0) (timeOf c, [] ⊕ ascii "no command runs (an armed one waits for ff00)", i, m, s)
     (timeOf (x .0 .clock), runLine (x .0) (x .1), x .1, x .2, x .3)
 
--- ---- the commands
+-- ---- the commands, by their word w
 
-unfoldable pub applyOf : ℕ → List ℕ → Clock → List ℕ → List ℕ → List ℕ → Outcome
-applyOf key t c i m s =
-    cond (is ">" key) (timeOf c, busHint t, i, stored t m, s)
-    (cond (is ">s" key) (timeOf c, [], i, m, stored t s)
-    (cond (is "w" key) (timeOf c, warningOf i, written t i, m, s)
-    (cond (is "rd" key) (timeOf c, readText t i, afterRead t i, m, s)
-    (cond (is "ff00" key) (timeOf c, [], reuTriggerFf00 i .1, m, s)
-    (cond (is "FF00" key) (timeOf c, [], reuTriggerFf00 i .1, m, s)
-    (cond (is "enable" key) (timeOf c, [], reuSetEnabled i s 1 .1, m, reuSetEnabled i s 1 .2)
-    (cond (is "disable" key) (timeOf c, [], reuSetEnabled i s 0 .1, m, reuSetEnabled i s 0 .2)
-    (cond (is "reset" key) (timeOf c, [], reuReset i 0 .1, m, s)
-    (cond (is "new" key) ((0, [], 0), [], reuNew i .1, zeros m, zeros s)
-    (cond (is "g" key) (goOutcome t c i m s)
-    (cond (is "ba" key) ((c .cycle, wordOf 1 t, 0), [], i, m, s)
-    (cond (is "cycle" key) (cycleTime t c, cycleText t c, i, m, s) (timeOf c, [], i, m, s)))))))))))))
+unfoldable pub applyOf : List ℕ → List ℕ → Clock → List ℕ → List ℕ → List ℕ → Outcome
+applyOf w t c i m s =
+    cond (is ">" w) (timeOf c, busHint t, i, stored t m, s)
+    (cond (is ">s" w) (timeOf c, [], i, m, stored t s)
+    (cond (is "w" w) (timeOf c, warningOf i, written t i, m, s)
+    (cond (is "rd" w) (timeOf c, readText t i, afterRead t i, m, s)
+    (cond (oneOf ("ff00" ∷ "FF00" ∷ []) w) (timeOf c, [], reuTriggerFf00 i .1, m, s)
+    (cond (is "enable" w) (timeOf c, [], reuSetEnabled i s 1 .1, m, reuSetEnabled i s 1 .2)
+    (cond (is "disable" w) (timeOf c, [], reuSetEnabled i s 0 .1, m, reuSetEnabled i s 0 .2)
+    (cond (is "reset" w) (timeOf c, [], reuReset i 0 .1, m, s)
+    (cond (is "new" w) ((0, [], 0), [], reuNew i .1, zeros m, zeros s)
+    (cond (is "g" w) (goOutcome t c i m s)
+    (cond (is "ba" w) ((c .cycle, wordOf 1 t, 0), [], i, m, s)
+    (cond (is "cycle" w) (cycleTime t c, cycleText t c, i, m, s) (timeOf c, [], i, m, s))))))))))))

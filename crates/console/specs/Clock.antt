@@ -22,11 +22,24 @@ unfoldable pub isPattern : List ℕ → Bool
 isPattern [] = true
 isPattern (c ∷ s) = cond (eqb (inputsOf c) 8) false (isPattern s)
 
+-- the time: the next cycle's number, BA's letters, and the place of the next one
+abbrev pub Time : Type 0
+Time = ℕ × List ℕ × ℕ
+
+abbrev pub timeOf : Clock → Time
+timeOf c = (c .cycle, textOf (c .ba), c .at)
+
 -- the letter of the next cycle: after the last one BA is high
+abbrev pub letterAt : Time → ℕ
+letterAt t = cond (ltb (t .2) (length (t .1))) (getD (t .1) (t .2) 0) 104
+
 abbrev pub letterOf : Clock → ℕ
-letterOf c = cond (ltb (c .at) (length (textOf (c .ba)))) (getD (textOf (c .ba)) (c .at) 0) 104
+letterOf c = letterAt (timeOf c)
 
 -- after a cycle; its number has 64 bits
+abbrev pub nextTime : Time → Time
+nextTime t = ((t .0 + 1) % 2 ^ 64, t .1, t .2 + cond (ltb (t .2) (length (t .1))) 1 0)
+
 abbrev pub nextClock : Clock → Clock
 nextClock c =
     record {

@@ -1,30 +1,48 @@
 -- Which command a line is, and what is wrong with its words: no bytes where nothing is. t is the line that was typed.
-use Prim.Native.Nat.{ℕ}
+use Prim.Native.Nat.{ℕ, suc}
 use Prim.Native.String.{String}
 use mathlib.Core.Bool.{Bool, true, false, cond}
-use mathlib.Core.List.{List, []}
+use mathlib.Core.List.{List, [], _∷_}
 use lib.Dec.{eqb, ltb}
 use lib.ListN.{length, getD}
 use Rattle.pane.specs.Faults.{faultOf}
 use Rattle.pane.specs.Shown.{_⊕_, ascii, fillOf}
-use Rattle.pane.specs.Typed.{keyOf, wordOf, wordsOf}
+use Rattle.pane.specs.Typed.{same, wordOf, wordsOf}
 use Rattle.console.specs.Clock.{isPattern}
 use Rattle.console.specs.Memory.{showFault, storeFault}
 use Rattle.console.specs.Registers.{readFault, writeFault}
 
--- a command is known by its word's number: whether it is the one with a name
-abbrev pub is : String → ℕ → Bool
-is name key = eqb key (keyOf (ascii name))
+-- a command is its word: whether a word is a name
+abbrev pub is : String → List ℕ → Bool
+is name w = same (ascii name) w
 
--- whether it is there to change the controller
-unfoldable pub isChange : ℕ → Bool
-isChange key =
-    cond (is "w" key) true
-    (cond (is "ff00" key) true
-    (cond (is "FF00" key) true
-    (cond (is "enable" key) true
-    (cond (is "disable" key) true
-    (cond (is "reset" key) true false)))))
+-- whether it is one of some names
+abbrev pub oneOf : List String → List ℕ → Bool
+oneOf [] w = false
+oneOf (name ∷ names) w = cond (is name w) true (oneOf names w)
+
+-- the controller's lines and its switch, each a word alone
+abbrev pub isSwitch : List ℕ → Bool
+isSwitch w = oneOf ("ff00" ∷ "FF00" ∷ "enable" ∷ "disable" ∷ "reset" ∷ []) w
+
+-- whether a command is there to change the controller
+abbrev pub isChange : List ℕ → Bool
+isChange w = cond (is "w" w) true (isSwitch w)
+
+-- every name
+abbrev pub names : List (List ℕ)
+names = ascii "r" ∷ ascii "m" ∷ ascii "ms" ∷ ascii ">" ∷ ascii ">s" ∷ ascii "w" ∷ ascii "rd" ∷ ascii "ff00" ∷ ascii "FF00" ∷ ascii "z" ∷ ascii "g" ∷ ascii "ba" ∷ ascii "cycle" ∷ ascii "enable" ∷ ascii "disable" ∷ ascii "reset" ∷ ascii "new" ∷ ascii "save" ∷ ascii "open" ∷ ascii "beside" ∷ ascii "help" ∷ ascii "q" ∷ []
+
+abbrev pub nameAt : ℕ → List ℕ
+nameAt i = getD names i []
+
+-- the place of a word among names: past them all where it is none of them
+unfoldable pub placeIn : List (List ℕ) → List ℕ → ℕ
+placeIn [] w = 0
+placeIn (v ∷ vs) w = cond (same v w) 0 (suc (placeIn vs w))
+
+abbrev pub placeOf : List ℕ → ℕ
+placeOf w = placeIn names w
 
 -- a line with no words, or whose first begins with #, which is 35
 unfoldable pub isComment : List ℕ → Bool
@@ -53,37 +71,27 @@ baFault t =
     cond (isPattern (wordOf 1 t)) (exactly 2 usage t) (fillOf usage (wordOf 0 t))
 
 -- commands that are a word alone; what is no command
-unfoldable pub otherFault : ℕ → List ℕ → List ℕ
-otherFault key t =
-    let alone : List ℕ = exactly 1 "usage: %, with nothing after it" t in
-    cond (is "r" key) alone
-    (cond (is "new" key) alone
-    (cond (is "help" key) alone
-    (cond (is "q" key) alone
-    (cond (is "ff00" key) alone
-    (cond (is "FF00" key) alone
-    (cond (is "enable" key) alone
-    (cond (is "disable" key) alone
-    (cond (is "reset" key) alone (fillOf "unknown command: % (help lists them)" (wordOf 0 t))))))))))
+unfoldable pub otherFault : List ℕ → List ℕ → List ℕ
+otherFault w t =
+    cond (isSwitch w) (exactly 1 "usage: %, with nothing after it" t)
+    (cond (oneOf ("r" ∷ "new" ∷ "help" ∷ "q" ∷ []) w) (exactly 1 "usage: %, with nothing after it" t)
+    (fillOf "unknown command: % (help lists them)" (wordOf 0 t)))
 
 -- the last address of the bus is 65,535, the last offset of the storage 524,287
-unfoldable pub commandFault : ℕ → List ℕ → List ℕ
-commandFault key t =
-    cond (is "m" key) (showFault t 65535)
-    (cond (is "ms" key) (showFault t 524287)
-    (cond (is ">" key) (storeFault t 65535)
-    (cond (is ">s" key) (storeFault t 524287)
-    (cond (is "w" key) (writeFault t)
-    (cond (is "rd" key) (readFault t)
-    (cond (is "z" key) (countFault t)
-    (cond (is "g" key) (countFault t)
-    (cond (is "cycle" key) (countFault t)
-    (cond (is "save" key) (fileFault t)
-    (cond (is "open" key) (fileFault t)
-    (cond (is "beside" key) (fileFault t) (cond (is "ba" key) (baFault t) (otherFault key t)))))))))))))
+unfoldable pub commandFault : List ℕ → List ℕ → List ℕ
+commandFault w t =
+    cond (is "m" w) (showFault t 65535)
+    (cond (is "ms" w) (showFault t 524287)
+    (cond (is ">" w) (storeFault t 65535)
+    (cond (is ">s" w) (storeFault t 524287)
+    (cond (is "w" w) (writeFault t)
+    (cond (is "rd" w) (readFault t)
+    (cond (oneOf ("z" ∷ "g" ∷ "cycle" ∷ []) w) (countFault t)
+    (cond (oneOf ("save" ∷ "open" ∷ "beside" ∷ []) w) (fileFault t)
+    (cond (is "ba" w) (baFault t) (otherFault w t)))))))))
 
 -- of any line: 159 characters are the most, and a comment has none
 unfoldable pub lineFault : List ℕ → List ℕ
 lineFault t =
     cond (ltb 159 (length t)) ([] ⊕ ascii "this line is too long: 159 characters are the most")
-    (cond (isComment t) [] (commandFault (keyOf (wordOf 0 t)) t))
+    (cond (isComment t) [] (commandFault (wordOf 0 t) t))

@@ -2,6 +2,10 @@ pub mod Apply
 pub mod Beside
 pub mod Clock
 pub mod Commands
+pub mod Files
 pub mod Memory
+pub mod Prompt
 pub mod Registers
+pub mod Session
 pub mod Step
+pub mod Turns

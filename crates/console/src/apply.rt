@@ -1,6 +1,6 @@
 // What a command does to the machine and to the time, and what it says. Commands that only show, and those on files, are not here.
 use crate::clock::Clock;
-use crate::commands::key;
+use crate::commands::place;
 use crate::keys;
 use crate::memory::address_of;
 use crate::memory::store;
@@ -15,9 +15,10 @@ ghost use mathlib.Core.Path.{_≡_};
 ghost use mathlib.Core.List.{[]};
 ghost use Rattle.controller.specs.Memory.{zeros};
 ghost use Rattle.pane.specs.Shown.{textOf};
-ghost use Rattle.pane.specs.Typed.{keyOf, wordOf};
+ghost use Rattle.pane.specs.Typed.{wordOf};
 ghost use Rattle.reu.specs.Exports.{reuNew, reuReset, reuSetEnabled, reuTriggerFf00};
-ghost use Rattle.console.specs.Apply.{applyOf, busHint, countOr, cycleTime, cycleText, goOutcome, stepOutcome, timeOf};
+ghost use Rattle.console.specs.Apply.{applyOf, busHint, countOr, cycleTime, cycleText, goOutcome, stepOutcome};
+ghost use Rattle.console.specs.Clock.{timeOf};
 ghost use Rattle.console.specs.Memory.{stored};
 ghost use Rattle.console.specs.Registers.{afterRead, readText, warningOf, written};
 
@@ -240,15 +241,16 @@ pub fn apply(
     bus: &mut [u8],
     storage: &mut [u8],
 ) -> Applied
-    ensures { λ r. ⌜ (timeOf (r .clock), textOf (r .said), now (image .exit), now (bus .exit), now (storage .exit)) ≡ applyOf (keyOf (wordOf 0 (textOf line))) (textOf line) clock (now (image .entry)) (now (bus .entry)) (now (storage .entry)) ⌝ }
+    ensures { λ r. ⌜ (timeOf (r .clock), textOf (r .said), now (image .exit), now (bus .exit), now (storage .exit)) ≡ applyOf (wordOf 0 (textOf line)) (textOf line) clock (now (image .entry)) (now (bus .entry)) (now (storage .entry)) ⌝ }
 {
-    let key = key(line);
-    match key {
+    let place = place(line);
+    match place {
         keys::POKE => poke(line, clock, bus),
         keys::POKES => poke_storage(line, clock, storage),
         keys::W => write(line, clock, image),
         keys::RD => read(line, clock, image),
-        keys::FF00 | keys::FF00_UPPER => trigger(clock, image),
+        keys::FF00 => trigger(clock, image),
+        keys::FF00_UPPER => trigger(clock, image),
         keys::ENABLE => switch(clock, image, storage, 1),
         keys::DISABLE => switch(clock, image, storage, 0),
         keys::RESET => reset(clock, image),

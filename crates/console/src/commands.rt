@@ -1,6 +1,8 @@
 // Which command a line is, and what is wrong with its words.
 use crate::clock::is_pattern;
 use crate::keys;
+use crate::memory::LAST_ADDRESS;
+use crate::memory::LAST_OFFSET;
 use crate::memory::show_fault;
 use crate::memory::store_fault;
 use crate::registers::read_fault;
@@ -13,32 +15,83 @@ ghost use mathlib.Core.List.{[]};
 ghost use mathlib.Core.Bool.{cond};
 ghost use lib.Dec.{eqb};
 ghost use Rattle.pane.specs.Shown.{_⊕_, fillFrom, textOf};
-ghost use Rattle.pane.specs.Typed.{keyOf, wordOf, wordsOf};
-ghost use Rattle.console.specs.Commands.{baFault, commandFault, countFault, fileFault, isChange, isComment, lineFault, otherFault};
-
-const LAST_ADDRESS: u32 = 65535;
-
-const LAST_OFFSET: u32 = 524287;
+ghost use Rattle.pane.specs.Typed.{wordOf, wordsOf};
+ghost use Rattle.console.specs.Commands.{baFault, commandFault, countFault, fileFault, isChange, isComment, isSwitch, lineFault, nameAt, otherFault, placeOf};
+ghost use Rattle.console.specs.Commands.{exactly as exactlyOf};
 
 const LAST_NUMBER: u32 = 0xFFFFFF;
 
-// The command as a number: its word's characters.
-pub fn key(line: Line) -> u64
-    ensures { λ r. ⌜ r ≡ keyOf (wordOf 0 (textOf line)) ⌝ }
+// The names of the commands.
+fn name(i: usize) -> Line
+    ensures { λ r. ⌜ textOf r ≡ nameAt i ⌝ }
 {
-    let word = line.word(0);
-    word.key()
+    let line = Line::new();
+    match i {
+        keys::R => line.text(b"r"),
+        keys::M => line.text(b"m"),
+        keys::MS => line.text(b"ms"),
+        keys::POKE => line.text(b">"),
+        keys::POKES => line.text(b">s"),
+        keys::W => line.text(b"w"),
+        keys::RD => line.text(b"rd"),
+        keys::FF00 => line.text(b"ff00"),
+        keys::FF00_UPPER => line.text(b"FF00"),
+        keys::Z => line.text(b"z"),
+        keys::G => line.text(b"g"),
+        keys::BA => line.text(b"ba"),
+        keys::CYCLE => line.text(b"cycle"),
+        keys::ENABLE => line.text(b"enable"),
+        keys::DISABLE => line.text(b"disable"),
+        keys::RESET => line.text(b"reset"),
+        keys::NEW => line.text(b"new"),
+        keys::SAVE => line.text(b"save"),
+        keys::OPEN => line.text(b"open"),
+        keys::BESIDE => line.text(b"beside"),
+        keys::HELP => line.text(b"help"),
+        keys::Q => line.text(b"q"),
+        _ => line,
+    }
 }
 
-// Whether a command is there to change the controller.
-pub fn is_change(key: u64) -> bool
-    ensures { λ r. ⌜ r ≡ isChange key ⌝ }
+// The place of a line's first word among them: 22 where it is none.
+pub fn place(line: Line) -> usize
+    ensures { λ r. ⌜ r ≡ placeOf (wordOf 0 (textOf line)) ⌝ }
 {
-    match key {
-        keys::W | keys::FF00 | keys::FF00_UPPER | keys::ENABLE | keys::DISABLE | keys::RESET =>
-            true,
+    let word = line.word(0);
+    let mut i = 0;
+    while i < 22 {
+        let name = name(i);
+        if name.same(word) {
+            return i;
+        }
+        i += 1;
+    }
+    i
+}
+
+// The controller's lines and its switch.
+fn is_switch(line: Line) -> bool
+    ensures { λ r. ⌜ r ≡ isSwitch (wordOf 0 (textOf line)) ⌝ }
+{
+    let place = place(line);
+    match place {
+        keys::FF00 => true,
+        keys::FF00_UPPER => true,
+        keys::ENABLE => true,
+        keys::DISABLE => true,
+        keys::RESET => true,
         _ => false,
     }
+}
+
+// Whether a line's command is there to change the controller.
+pub fn is_change(line: Line) -> bool
+    ensures { λ r. ⌜ r ≡ isChange (wordOf 0 (textOf line)) ⌝ }
+{
+    if place(line) == keys::W {
+        return true;
+    }
+    is_switch(line)
 }
 
 // A line with no words, or whose first begins with #.
@@ -103,37 +156,47 @@ fn ba_fault(line: Line) -> Line
 }
 
 // Of commands that are a word alone.
-fn other_fault(line: Line, key: u64) -> Line
-    ensures { λ r. ⌜ textOf r ≡ otherFault key (textOf line) ⌝ }
+fn alone_fault(line: Line) -> Line
+    ensures { λ r. ⌜ textOf r ≡ exactlyOf 1 "usage: %, with nothing after it" (textOf line) ⌝ }
 {
-    match key {
-        keys::R
-        | keys::NEW
-        | keys::HELP
-        | keys::Q
-        | keys::FF00
-        | keys::FF00_UPPER
-        | keys::ENABLE
-        | keys::DISABLE
-        | keys::RESET => exactly(line, 1, b"usage: %, with nothing after it"),
+    exactly(line, 1, b"usage: %, with nothing after it")
+}
+
+fn other_fault(line: Line) -> Line
+    ensures { λ r. ⌜ textOf r ≡ otherFault (wordOf 0 (textOf line)) (textOf line) ⌝ }
+{
+    if is_switch(line) {
+        return alone_fault(line);
+    }
+    let place = place(line);
+    match place {
+        keys::R => alone_fault(line),
+        keys::NEW => alone_fault(line),
+        keys::HELP => alone_fault(line),
+        keys::Q => alone_fault(line),
         _ => fill(b"unknown command: % (help lists them)", line.word(0)),
     }
 }
 
-fn command_fault(line: Line, key: u64) -> Line
-    ensures { λ r. ⌜ textOf r ≡ commandFault key (textOf line) ⌝ }
+fn command_fault(line: Line) -> Line
+    ensures { λ r. ⌜ textOf r ≡ commandFault (wordOf 0 (textOf line)) (textOf line) ⌝ }
 {
-    match key {
+    let place = place(line);
+    match place {
         keys::M => show_fault(line, LAST_ADDRESS),
         keys::MS => show_fault(line, LAST_OFFSET),
         keys::POKE => store_fault(line, LAST_ADDRESS),
         keys::POKES => store_fault(line, LAST_OFFSET),
         keys::W => write_fault(line),
         keys::RD => read_fault(line),
-        keys::Z | keys::G | keys::CYCLE => count_fault(line),
-        keys::SAVE | keys::OPEN | keys::BESIDE => file_fault(line),
+        keys::Z => count_fault(line),
+        keys::G => count_fault(line),
+        keys::CYCLE => count_fault(line),
+        keys::SAVE => file_fault(line),
+        keys::OPEN => file_fault(line),
+        keys::BESIDE => file_fault(line),
         keys::BA => ba_fault(line),
-        _ => other_fault(line, key),
+        _ => other_fault(line),
     }
 }
 
@@ -147,5 +210,5 @@ pub fn line_fault(line: Line) -> Line
     if is_comment(line) {
         return Line::new();
     }
-    command_fault(line, key(line))
+    command_fault(line)
 }

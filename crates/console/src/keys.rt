@@ -1,48 +1,46 @@
-// The commands as numbers: a word's characters, the first the most significant (Line::key).
+// The commands as numbers: the places of their names (commands::place).
 
 // r
-pub const R: u64 = 0x72;
+pub const R: usize = 0;
 // m
-pub const M: u64 = 0x6D;
+pub const M: usize = 1;
 // ms
-pub const MS: u64 = 0x6D73;
+pub const MS: usize = 2;
 // >
-pub const POKE: u64 = 0x3E;
+pub const POKE: usize = 3;
 // >s
-pub const POKES: u64 = 0x3E73;
+pub const POKES: usize = 4;
 // w
-pub const W: u64 = 0x77;
+pub const W: usize = 5;
 // rd
-pub const RD: u64 = 0x7264;
+pub const RD: usize = 6;
 // ff00
-pub const FF00: u64 = 0x66663030;
+pub const FF00: usize = 7;
 // FF00
-pub const FF00_UPPER: u64 = 0x46463030;
-// enable
-pub const ENABLE: u64 = 0x656E61626C65;
-// disable
-pub const DISABLE: u64 = 0x64697361626C65;
-// reset
-pub const RESET: u64 = 0x7265736574;
-// new
-pub const NEW: u64 = 0x6E6577;
+pub const FF00_UPPER: usize = 8;
 // z
-pub const Z: u64 = 0x7A;
+pub const Z: usize = 9;
 // g
-pub const G: u64 = 0x67;
+pub const G: usize = 10;
 // ba
-pub const BA: u64 = 0x6261;
+pub const BA: usize = 11;
 // cycle
-pub const CYCLE: u64 = 0x6379636C65;
+pub const CYCLE: usize = 12;
+// enable
+pub const ENABLE: usize = 13;
+// disable
+pub const DISABLE: usize = 14;
+// reset
+pub const RESET: usize = 15;
+// new
+pub const NEW: usize = 16;
 // save
-pub const SAVE: u64 = 0x73617665;
+pub const SAVE: usize = 17;
 // open
-pub const OPEN: u64 = 0x6F70656E;
+pub const OPEN: usize = 18;
 // beside
-pub const BESIDE: u64 = 0x626573696465;
+pub const BESIDE: usize = 19;
 // help
-pub const HELP: u64 = 0x68656C70;
+pub const HELP: usize = 20;
 // q
-pub const Q: u64 = 0x71;
-// --colour
-pub const COLOUR: u64 = 0x2D2D636F6C6F7572;
+pub const Q: usize = 21;

@@ -15,6 +15,11 @@ ghost use Rattle.pane.specs.Rows.{byteAt};
 ghost use Rattle.pane.specs.Shown.{_⊕_, ascii, hexOf, textOf};
 ghost use Rattle.console.specs.Memory.{address, addressText, bytesLine, endOf, rangeFault, showFault, storeFault, stored, typed};
 
+// The last address of the bus, and the last offset of the storage.
+pub const LAST_ADDRESS: u32 = 65535;
+
+pub const LAST_OFFSET: u32 = 524287;
+
 const PER_LINE: usize = 16;
 // How many more bytes are shown where no end is given.
 const SHOWN: u32 = 63;

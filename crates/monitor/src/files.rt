@@ -3,19 +3,11 @@ use crate::empty_bus;
 use crate::empty_storage;
 use crate::output::say;
 use crate::output::show_beside;
+use console::files::copy;
+use console::files::part_name;
 use pane::line::Line;
 use pane::line::fill;
 use pane::line::first;
-use pane::rows::byte;
-
-// The names of the three parts.
-fn part_name(name: Line, part: u8) -> Line {
-    match part {
-        0 => name,
-        1 => name.text(b".bus"),
-        _ => name.text(b".storage"),
-    }
-}
 
 // ---- saving
 
@@ -98,12 +90,6 @@ fn read_machine(name: Line, image: &mut [u8], bus: &mut [u8], storage: &mut [u8]
         return also;
     }
     read_part(part_name(name, 2), storage)
-}
-
-fn copy(from: &[u8], to: &mut [u8]) {
-    for i in 0..to.len() {
-        to[i] = byte(from, i);
-    }
 }
 
 // The machine is changed once all three parts are there. Answers what to say.

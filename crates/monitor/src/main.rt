@@ -3,18 +3,18 @@ mod files;
 mod help;
 mod input;
 mod output;
-mod session;
 mod turn;
 
 ghost use mathlib.Core.Path.{_≡_};
 ghost use lib.ListN.{length};
-use console::keys;
+use console::prompt::is_colour;
+use console::session::Session;
 use output::say;
 use output::tell;
 use pane::line::Line;
 use pane::line::fill;
 use pane::line::first;
-use session::Session;
+use turn::Terminal;
 use turn::turn;
 
 fn argument(i: usize) -> Line {
@@ -32,11 +32,11 @@ fn source(script: Line) -> i32 {
     os::open_read(first(&bytes, script.used))
 }
 
-fn turns(start: Session, fd: i32, image: &mut [u8], bus: &mut [u8], storage: &mut [u8]) {
-    let mut session = start;
+fn turns(fd: i32, terminal: Terminal, image: &mut [u8], bus: &mut [u8], storage: &mut [u8]) {
+    let mut session = Session::new();
     let mut left = u64::MAX;
     while left > 0 {
-        session = turn(session, fd, image, bus, storage);
+        session = turn(session, fd, terminal, image, bus, storage);
         if session.ended {
             return;
         }
@@ -51,7 +51,7 @@ fn script_of(word: Line, colour: bool) -> Line {
 
 fn begin(image: &mut [u8], bus: &mut [u8], storage: &mut [u8]) {
     let word = argument(1);
-    let colour = (word.length() == 8) & (word.key() == keys::COLOUR);
+    let colour = is_colour(word);
     let script = script_of(word, colour);
     let fd = source(script);
     if fd < 0 {
@@ -63,8 +63,11 @@ fn begin(image: &mut [u8], bus: &mut [u8], storage: &mut [u8]) {
     if typed {
         tell(b"A new machine, not enabled yet. help lists the commands.");
     }
-    let session = Session::new(colour, !typed);
-    turns(session, fd, image, bus, storage);
+    let terminal = Terminal {
+        colour,
+        echo: !typed,
+    };
+    turns(fd, terminal, image, bus, storage);
 }
 
 // What is known of these arrays is their length alone, which is all that lending them needs.

@@ -1,150 +1,145 @@
-use mathlib.Core.Path.{_≡_, refl, sym, ap, _∙_}
-use mathlib.Core.Logic.{⊎-elim, inl, inr}
-use Prim.Native.Nat.{ℕ}
-use Rattle.pane.specs.Shown.{textOf}
-use Rattle.pane.specs.Typed.{keyFrom, keyOf, wordOf}
+use mathlib.Core.Path.{_≡_, refl}
+use mathlib.Core.List.{List}
+use Prim.Native.Nat.{ℕ, _<_}
+use native.Mathlib.Omega.{arith}
+use Rattle.pane.specs.Shown.{ascii, textOf}
+use Rattle.pane.specs.Typed.{same, wordOf}
 use Rattle.console.specs.Apply.{Outcome, applyOf}
+use Rattle.console.specs.Commands.{nameAt}
+use Rattle.console.proofs.Names.{named, other}
 use Rattle.console.proofs.Outcomes.{at, attached, image, outcome, timed}
-use borrow.Author.Tests.{ne-eqb}
 use borrow.Author.Needs.{needs}
 use Rattle.console.proofs.apply.apply.Statement.{statement}
 use Rattle.console.proofs.apply.apply.Tie as tie
 
--- what a command does to a line's machine, by the command's number
-abbrev by : tie.After-key → ℕ → Outcome
-by k key =
+-- what a command does to a line's machine, by the command's word
+abbrev by : tie.After-place → List ℕ → Outcome
+by k w =
     let its-args = k .before .before .before .before .args in
-    applyOf key (textOf (its-args .line)) (its-args .clock) (its-args .image .now) (its-args .bus .now)
+    applyOf w (textOf (its-args .line)) (its-args .clock) (its-args .image .now) (its-args .bus .now)
     (its-args .storage .now)
 
--- the number of a line's first word
-abbrev first : tie.After-key → ℕ
-first k = keyOf (wordOf 0 (textOf (k .before .before .before .before .args .line)))
-
--- the command is known once that number is a name's
-known : (k : tie.After-key) {name : ℕ} {o : Outcome} → k .key .result ≡ name → o ≡ by k name → o ≡ by k (first k)
-known k n p = p ∙ ap (λ (x : ℕ). by k x) (sym n ∙ k .key .ensures)
+-- the command is known once the word's place is a name's
+known :
+    (k : tie.After-place) {n : ℕ} {o : Outcome} → k .place .result ≡ n → n < 22 → o ≡ by k (nameAt n) →
+    o ≡ by k (wordOf 0 (textOf (k .before .before .before .before .args .line)))
+known k q h p = named _ (k .place .ensures) (by k) q h p
 
 returns : tie.Need-returns
-unfolding applyOf keyFrom
+unfolding applyOf same
 returns c =
     let it = c .before .before .poke .ensures in
-    let its-match = c .before .before .before .before .match in
-    known (c .before .before .before .before .before) (its-match .keys1)
-    (outcome (at (it .0)) (it .1 .0) refl (it .1 .1) refl)
+    let its-match = c .before .before .before .before in
+    known (its-match .before) (its-match .match .keys1) (omega arith) (outcome (at (it .0)) (it .1 .0) refl (it .1 .1) refl)
 
 returns-2 : tie.Need-returns-2
-unfolding applyOf keyFrom
+unfolding applyOf same
 returns-2 c =
     let it = c .before .before .poke-storage .ensures in
-    let its-match = c .before .before .before .before .match in
-    known (c .before .before .before .before .before) (its-match .keys2)
-    (outcome (at (it .0)) (it .1 .0) refl refl (it .1 .1))
+    let its-match = c .before .before .before .before in
+    known (its-match .before) (its-match .match .keys2) (omega arith) (outcome (at (it .0)) (it .1 .0) refl refl (it .1 .1))
 
 returns-3 : tie.Need-returns-3
-unfolding applyOf keyFrom
+unfolding applyOf same
 returns-3 c =
     let it = c .before .before .write .ensures in
-    let its-match = c .before .before .before .before .match in
-    known (c .before .before .before .before .before) (its-match .keys3) (image it)
+    let its-match = c .before .before .before .before in
+    known (its-match .before) (its-match .match .keys3) (omega arith) (image it)
 
 returns-4 : tie.Need-returns-4
-unfolding applyOf keyFrom
+unfolding applyOf same
 returns-4 c =
     let it = c .before .before .read .ensures in
-    let its-match = c .before .before .before .before .match in
-    known (c .before .before .before .before .before) (its-match .keys4) (image it)
+    let its-match = c .before .before .before .before in
+    known (its-match .before) (its-match .match .keys4) (omega arith) (image it)
 
 returns-5 : tie.Need-returns-5
-unfolding applyOf keyFrom
+unfolding applyOf same
 returns-5 c =
     let it = c .before .before .trigger .ensures in
-    let its-match = c .before .before .before .before .match in
-    let k = c .before .before .before .before .before in
-    ⊎-elim (λ h. known k h (image it)) (λ h. known k h (image it)) (its-match .keys5)
+    let its-match = c .before .before .before .before in
+    known (its-match .before) (its-match .match .keys5) (omega arith) (image it)
 
 returns-6 : tie.Need-returns-6
-unfolding applyOf keyFrom
+unfolding applyOf same
 returns-6 c =
-    let it = c .before .before .before .before .switch .ensures in
-    let its-match = c .before .before .before .before .before .before .before .match in
-    known (c .before .before .before .before .before .before .before .before) (its-match .keys6) (attached it)
+    let it = c .before .before .trigger2 .ensures in
+    let its-match = c .before .before .before .before in
+    known (its-match .before) (its-match .match .keys6) (omega arith) (image it)
 
 returns-7 : tie.Need-returns-7
-unfolding applyOf keyFrom
+unfolding applyOf same
 returns-7 c =
-    let it = c .before .before .before .before .switch2 .ensures in
-    let its-match = c .before .before .before .before .before .before .before .match in
-    known (c .before .before .before .before .before .before .before .before) (its-match .keys7) (attached it)
+    let it = c .before .before .before .before .switch .ensures in
+    let its-match = c .before .before .before .before .before .before .before in
+    known (its-match .before) (its-match .match .keys7) (omega arith) (attached it)
 
 returns-8 : tie.Need-returns-8
-unfolding applyOf keyFrom
+unfolding applyOf same
 returns-8 c =
-    let it = c .before .before .reset .ensures in
-    let its-match = c .before .before .before .before .match in
-    known (c .before .before .before .before .before) (its-match .keys8) (image it)
+    let it = c .before .before .before .before .switch2 .ensures in
+    let its-match = c .before .before .before .before .before .before .before in
+    known (its-match .before) (its-match .match .keys8) (omega arith) (attached it)
 
 returns-9 : tie.Need-returns-9
-unfolding applyOf keyFrom
+unfolding applyOf same
 returns-9 c =
-    let it = c .before .before .before .before .before .before .renew .ensures in
-    let its-match = c .before .before .before .before .before .before .before .before .before .before .match in
-    known (c .before .before .before .before .before .before .before .before .before .before .before) (its-match .keys9)
-    (outcome (it .0) (it .1 .0) (it .1 .1 .0) (it .1 .1 .1 .0) (it .1 .1 .1 .1))
+    let it = c .before .before .reset .ensures in
+    let its-match = c .before .before .before .before in
+    known (its-match .before) (its-match .match .keys9) (omega arith) (image it)
 
 returns-10 : tie.Need-returns-10
-unfolding applyOf keyFrom
+unfolding applyOf same
 returns-10 c =
-    let it = c .before .before .before .before .before .before .run-command .ensures in
-    let its-match = c .before .before .before .before .before .before .before .before .before .before .match in
-    known (c .before .before .before .before .before .before .before .before .before .before .before) (its-match .keys10) it
+    let it = c .before .before .before .before .before .before .renew .ensures in
+    let its-match = c .before .before .before .before .before .before .before .before .before .before in
+    known (its-match .before) (its-match .match .keys10) (omega arith) (outcome (it .0) (it .1 .0) (it .1 .1 .0) (it .1 .1 .1 .0) (it .1 .1 .1 .1))
 
 returns-11 : tie.Need-returns-11
-unfolding applyOf keyFrom
+unfolding applyOf same
 returns-11 c =
-    let it = c .set-ba .ensures in
-    let its-match = c .before .match in
-    known (c .before .before) (its-match .keys11) (timed it)
+    let it = c .before .before .before .before .before .before .run-command .ensures in
+    let its-match = c .before .before .before .before .before .before .before .before .before .before in
+    known (its-match .before) (its-match .match .keys11) (omega arith) it
 
 returns-12 : tie.Need-returns-12
-unfolding applyOf keyFrom
+unfolding applyOf same
 returns-12 c =
-    let it = c .set-cycle .ensures in
-    let its-match = c .before .match in
-    known (c .before .before) (its-match .keys12) (timed it)
+    let it = c .set-ba .ensures in
+    let its-match = c .before in
+    known (its-match .before) (its-match .match .keys12) (omega arith) (timed it)
 
 returns-13 : tie.Need-returns-13
-unfolding applyOf keyFrom
+unfolding applyOf same
 returns-13 c =
+    let it = c .set-cycle .ensures in
+    let its-match = c .before in
+    known (its-match .before) (its-match .match .keys13) (omega arith) (timed it)
+
+returns-14 : tie.Need-returns-14
+unfolding applyOf
+returns-14 c =
     let it = c .quiet .ensures in
-    let its-key = c .before .before .key in
+    let e = c .before .before .place .ensures in
     let rest = c .before .match .rest in
     rw (
-      ← its-key .ensures,
-      ne-eqb _ _ (rest .0 .0 .0 .0 .0 .0 .0 .0 .0 .0 .0 .1),
-      ne-eqb _ _ (rest .0 .0 .0 .0 .0 .0 .0 .0 .0 .0 .1),
-      ne-eqb _ _ (rest .0 .0 .0 .0 .0 .0 .0 .0 .0 .1),
-      ne-eqb _ _ (rest .0 .0 .0 .0 .0 .0 .0 .0 .1),
-      ne-eqb _ _ (λ h. rest .0 .0 .0 .0 .0 .0 .0 .1 (inr h)),
-      ne-eqb _ _ (λ h. rest .0 .0 .0 .0 .0 .0 .0 .1 (inl h)),
-      ne-eqb _ _ (rest .0 .0 .0 .0 .0 .0 .1),
-      ne-eqb _ _ (rest .0 .0 .0 .0 .0 .1),
-      ne-eqb _ _ (rest .0 .0 .0 .0 .1),
-      ne-eqb _ _ (rest .0 .0 .0 .1),
-      ne-eqb _ _ (rest .0 .0 .1),
-      ne-eqb _ _ (rest .0 .1),
-      ne-eqb _ _ (rest .1),
+      other _ e (ascii ">") refl (omega arith) (rest .0 .0 .0 .0 .0 .0 .0 .0 .0 .0 .0 .0 .1),
+      other _ e (ascii ">s") refl (omega arith) (rest .0 .0 .0 .0 .0 .0 .0 .0 .0 .0 .0 .1),
+      other _ e (ascii "w") refl (omega arith) (rest .0 .0 .0 .0 .0 .0 .0 .0 .0 .0 .1),
+      other _ e (ascii "rd") refl (omega arith) (rest .0 .0 .0 .0 .0 .0 .0 .0 .0 .1),
+      other _ e (ascii "ff00") refl (omega arith) (rest .0 .0 .0 .0 .0 .0 .0 .0 .1),
+      other _ e (ascii "FF00") refl (omega arith) (rest .0 .0 .0 .0 .0 .0 .0 .1),
+      other _ e (ascii "enable") refl (omega arith) (rest .0 .0 .0 .0 .0 .0 .1),
+      other _ e (ascii "disable") refl (omega arith) (rest .0 .0 .0 .0 .0 .1),
+      other _ e (ascii "reset") refl (omega arith) (rest .0 .0 .0 .0 .1),
+      other _ e (ascii "new") refl (omega arith) (rest .0 .0 .0 .1),
+      other _ e (ascii "g") refl (omega arith) (rest .0 .0 .1),
+      other _ e (ascii "ba") refl (omega arith) (rest .0 .1),
+      other _ e (ascii "cycle") refl (omega arith) (rest .1),
     )
     (outcome (at (it .0)) (it .1) refl refl refl)
 
 pub apply-spec : {M : Type 1} → statement M
 apply-spec =
     tie.close
-    (tie.spec (λ c κs. search needs) (λ c κs. search needs) (λ c κs. search needs) (λ c κs. search needs)
-    (λ c κs. search needs) (λ c κs. search needs) (λ c κs. search needs) (λ c κs. search needs)
-    (λ c κs. search needs) (λ c κs. search needs) (λ c κs. search needs) (λ c κs. search needs)
-    (λ c κs. search needs) (λ c κs. search needs) (λ c. search needs) returns (λ c. search needs) returns-2
-    (λ c. search needs) returns-3 (λ c. search needs) returns-4 (λ c. search needs) returns-5
-    (λ c. search needs) (λ c. search needs) returns-6 (λ c. search needs) (λ c. search needs) returns-7
-    (λ c. search needs) returns-8 (λ c. search needs) (λ c. search needs) (λ c. search needs) returns-9
-    (λ c. search needs) (λ c. search needs) (λ c. search needs) returns-10 returns-11 returns-12 returns-13)
+    (tie.spec (λ c κs. search needs) (λ c κs. search needs) (λ c κs. search needs) (λ c κs. search needs) (λ c κs. search needs) (λ c κs. search needs) (λ c κs. search needs) (λ c κs. search needs) (λ c κs. search needs) (λ c κs. search needs) (λ c κs. search needs) (λ c κs. search needs) (λ c κs. search needs) (λ c κs. search needs) (λ c κs. search needs) (λ c. search needs) returns (λ c. search needs) returns-2 (λ c. search needs) returns-3 (λ c. search needs) returns-4 (λ c. search needs) returns-5 (λ c. search needs) returns-6 (λ c. search needs) (λ c. search needs) returns-7 (λ c. search needs) (λ c. search needs) returns-8 (λ c. search needs) returns-9 (λ c. search needs) (λ c. search needs) (λ c. search needs) returns-10 (λ c. search needs) (λ c. search needs) (λ c. search needs) returns-11 returns-12 returns-13 returns-14)

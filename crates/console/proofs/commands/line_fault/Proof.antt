@@ -26,14 +26,12 @@ returns-2 c =
 returns-3 : tie.Need-returns-3
 unfolding lineFault
 returns-3 c =
-    let long = c .before .before .before .before .before .length in
-    let comment = c .before .before .before .is-comment in
+    let long = c .before .before .before .before .length in
     rw (
       ← long .ensures .0,
-      le-ltb _ _ (c .before .before .before .before .if1 .left),
-      ← comment .ensures,
-      c .before .before .if2 .left,
-      ← c .before .key .ensures,
+      le-ltb _ _ (c .before .before .before .if1 .left),
+      ← c .before .before .is-comment .ensures,
+      c .before .if2 .left,
     )
     (c .command-fault .ensures)
 
@@ -41,4 +39,4 @@ pub line-fault-spec : {M : Type 1} → statement M
 line-fault-spec =
     tie.close
     (tie.spec (λ c κs. search needs) (λ c κs. search needs) (λ c. search needs) (λ c κs. search needs) returns
-    (λ c κs. search needs) (λ c κs. search needs) returns-2 (λ c κs. search needs) (λ c κs. search needs) returns-3)
+    (λ c κs. search needs) (λ c κs. search needs) returns-2 (λ c κs. search needs) returns-3)
