@@ -2,7 +2,7 @@
 -- what is said of a refused image.
 use mathlib.Core.Path.{_≡_, refl}
 use mathlib.Core.Bool.{true, false}
-use mathlib.Core.List.{List, [], _∷_}
+use mathlib.Core.List.{List, [], _∷_, _++_}
 use Prim.Native.Nat.{ℕ}
 use lib.ListN.{replicate}
 use Rattle.controller.specs.Refusals.{checked}
@@ -12,9 +12,10 @@ use Rattle.pane.specs.Faults.{faultOf, faultsFrom}
 use Rattle.pane.specs.Shown.{_⊕_, ascii, decimalUpTo, fillFrom, hexOf}
 use Rattle.pane.specs.Typed.{digitsFrom, numberOf, same, wordFrom, wordsFrom}
 use Rattle.console.specs.declared.clock.Clock.{Clock}
+use Rattle.console.specs.Apply.{applyOf}
 use Rattle.console.specs.Beside.{besideRow}
-use Rattle.console.specs.Clock.{inputsOf, isPattern}
-use Rattle.console.specs.Commands.{commandFault, isComment, lineFault, otherFault}
+use Rattle.console.specs.Clock.{inputsOf, isPattern, timeOf}
+use Rattle.console.specs.Commands.{commandFault, isComment, lineFault, otherFault, placeIn, placeOf}
 use Rattle.console.specs.Memory.{bytesFrom, bytesLine, bytesText, each, stored, storeFault}
 use Rattle.console.specs.Registers.{readText, warningOf}
 use Rattle.console.specs.Step.{advanced, baText, cycleLine, goOf, runLine, started}
@@ -34,6 +35,25 @@ past-the-end = refl
 no-command : lineFault (ascii "jump 1000") ≡ ascii "unknown command: jump (help lists them)"
 unfolding lineFault isComment commandFault otherFault fillFrom same wordsFrom wordFrom _⊕_
 no-command = refl
+
+-- a word that only ends in a name is no command: nothing is reset
+not-reset : lineFault (0 ∷ ascii "reset") ≡ ascii "unknown command: " ++ (0 ∷ ascii "reset (help lists them)")
+unfolding lineFault isComment commandFault otherFault fillFrom same wordsFrom wordFrom _⊕_
+not-reset = refl
+
+left-alone :
+    (t : List ℕ) (c : Clock) (i m s : List ℕ) → applyOf (0 ∷ ascii "reset") t c i m s ≡ (timeOf c, [], i, m, s)
+unfolding applyOf same
+left-alone t c i m s = refl
+
+-- where every name stands, and where what is none
+third : placeOf (ascii "ms") ≡ 2
+unfolding placeIn same
+third = refl
+
+none : placeOf (ascii "resets") ≡ 22
+unfolding placeIn same
+none = refl
 
 a-comment : lineFault (ascii "# jump") ≡ []
 unfolding lineFault isComment wordFrom

@@ -1,5 +1,4 @@
 pub mod Bytes
-pub mod Choices
 pub mod Copies
 pub mod Cycles
 pub mod Each

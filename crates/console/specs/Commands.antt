@@ -31,7 +31,10 @@ isChange w = cond (is "w" w) true (isSwitch w)
 
 -- every name
 abbrev pub names : List (List ℕ)
-names = ascii "r" ∷ ascii "m" ∷ ascii "ms" ∷ ascii ">" ∷ ascii ">s" ∷ ascii "w" ∷ ascii "rd" ∷ ascii "ff00" ∷ ascii "FF00" ∷ ascii "z" ∷ ascii "g" ∷ ascii "ba" ∷ ascii "cycle" ∷ ascii "enable" ∷ ascii "disable" ∷ ascii "reset" ∷ ascii "new" ∷ ascii "save" ∷ ascii "open" ∷ ascii "beside" ∷ ascii "help" ∷ ascii "q" ∷ []
+names =
+    ascii "r" ∷ ascii "m" ∷ ascii "ms" ∷ ascii ">" ∷ ascii ">s" ∷ ascii "w" ∷ ascii "rd" ∷ ascii "ff00"
+    ∷ ascii "FF00" ∷ ascii "z" ∷ ascii "g" ∷ ascii "ba" ∷ ascii "cycle" ∷ ascii "enable" ∷ ascii "disable"
+    ∷ ascii "reset" ∷ ascii "new" ∷ ascii "save" ∷ ascii "open" ∷ ascii "beside" ∷ ascii "help" ∷ ascii "q" ∷ []
 
 abbrev pub nameAt : ℕ → List ℕ
 nameAt i = getD names i []

@@ -53,13 +53,13 @@ fn name(i: usize) -> Line
     }
 }
 
-// The place of a line's first word among them: 22 where it is none.
+// The place of a line's first word among them: past them all where it is none.
 pub fn place(line: Line) -> usize
     ensures { λ r. ⌜ r ≡ placeOf (wordOf 0 (textOf line)) ⌝ }
 {
     let word = line.word(0);
     let mut i = 0;
-    while i < 22 {
+    while i < keys::COUNT {
         let name = name(i);
         if name.same(word) {
             return i;

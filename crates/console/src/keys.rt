@@ -44,3 +44,6 @@ pub const BESIDE: usize = 19;
 pub const HELP: usize = 20;
 // q
 pub const Q: usize = 21;
+
+// How many there are.
+pub const COUNT: usize = 22;

@@ -9,7 +9,7 @@ ghost use mathlib.Core.Path.{_≡_};
 ghost use mathlib.Core.Bool.{cond};
 ghost use Prim.Native.Nat.{_+_, _-_, _≤_, min};
 ghost use lib.Dec.{leb};
-ghost use lib.ListN.{length};
+ghost use lib.ListN.{length, replicate};
 ghost use lib.ListN.{set as ListN·set};
 ghost use Rattle.pane.specs.Rows.{byteAt};
 ghost use Rattle.pane.specs.Shown.{_⊕_, ascii, hexOf, textOf};
@@ -23,6 +23,24 @@ pub const LAST_OFFSET: u32 = 524287;
 const PER_LINE: usize = 16;
 // How many more bytes are shown where no end is given.
 const SHOWN: u32 = 63;
+
+// ---- a new machine's
+
+pub fn empty_bus() -> [u8; 65536]
+    ensures { λ r. ⌜ r ≡ replicate 65536 0 ⌝ }
+    ensures { λ r. ⌜ 65536 ≡ length r ⌝ }
+{
+    [0; 65536]
+}
+
+pub fn empty_storage() -> [u8; 524288]
+    ensures { λ r. ⌜ r ≡ replicate 524288 0 ⌝ }
+    ensures { λ r. ⌜ 524288 ≡ length r ⌝ }
+{
+    [0; 524288]
+}
+
+// ---- bytes and words
 
 fn put(s: &mut [u8], i: usize, value: u8)
     ensures { λ _. ⌜ now (s .exit) ≡ ListN·set (now (s .entry)) i value ⌝ }

@@ -15,7 +15,7 @@ ghost use mathlib.Core.List.{[]};
 ghost use Prim.Native.Nat.{_-_};
 ghost use Rattle.pane.specs.Shown.{textOf};
 ghost use Rattle.console.specs.Clock.{timeOf};
-ghost use Rattle.console.specs.Session.{cycleTurn, droppedTurn, endedAfter, endedSession, heldOf, isDropped, obeyTurn, stepsOf, turnOf};
+ghost use Rattle.console.specs.Session.{cycleTurn, endedAfter, endedSession, heldOf, isDropped, obeyTurn, stepsOf, turnOf};
 ghost use Rattle.console.specs.Turns.{FaultsChangeNothing, StepsAreCycles};
 
 pub struct Session {

@@ -1,10 +1,10 @@
 // Saved machines: the image in a file, bus and storage in two files beside it.
-use crate::empty_bus;
-use crate::empty_storage;
 use crate::output::say;
 use crate::output::show_beside;
 use console::files::copy;
 use console::files::part_name;
+use console::memory::empty_bus;
+use console::memory::empty_storage;
 use pane::line::Line;
 use pane::line::fill;
 use pane::line::first;

@@ -5,8 +5,8 @@ mod input;
 mod output;
 mod turn;
 
-ghost use mathlib.Core.Path.{_≡_};
-ghost use lib.ListN.{length};
+use console::memory::empty_bus;
+use console::memory::empty_storage;
 use console::prompt::is_colour;
 use console::session::Session;
 use output::say;
@@ -68,20 +68,6 @@ fn begin(image: &mut [u8], bus: &mut [u8], storage: &mut [u8]) {
         echo: !typed,
     };
     turns(fd, terminal, image, bus, storage);
-}
-
-// What is known of these arrays is their length alone, which is all that lending them needs.
-
-fn empty_bus() -> [u8; 65536]
-    ensures { λ r. ⌜ 65536 ≡ length r ⌝ }
-{
-    [0; 65536]
-}
-
-fn empty_storage() -> [u8; 524288]
-    ensures { λ r. ⌜ 524288 ≡ length r ⌝ }
-{
-    [0; 524288]
 }
 
 fn main() {

@@ -13,7 +13,7 @@ use Rattle.image.specs.Open.{bytesOk, imageOk, openImage}
 use Rattle.reu.specs.Exports.{code, look, reuDmaActive}
 use Rattle.pane.specs.Rows.{copyOf, flagsRow, heldRow, refusedRow, rowOf, runningRow, transferRow}
 use Rattle.pane.specs.Shown.{_⊕_, ascii, bitsFrom, bitsOf, decimalOf, decimalUpTo, fillFrom, hexOf}
-use Rattle.pane.specs.Typed.{digitsFrom, keyFrom, keyOf, numberOf, wordFrom, wordOf, wordsFrom, wordsOf}
+use Rattle.pane.specs.Typed.{digitsFrom, numberOf, wordFrom, wordOf, wordsFrom, wordsOf}
 
 -- ---- what is typed
 
@@ -24,10 +24,6 @@ second-word = refl
 three-words : wordsOf (ascii " w DF02 00 ") ≡ 3
 unfolding wordsFrom
 three-words = refl
-
-key-of-save : keyOf (ascii "save") ≡ 0x73617665
-unfolding keyFrom
-key-of-save = refl
 
 sixteen : numberOf (ascii "+16") ≡ Value 16
 unfolding digitsFrom numberOf

@@ -1,8 +1,8 @@
--- Keys, words, sameness and faults as a loop finds them: what is left to say at a place of a text, one place further, and at the end.
+-- Words, sameness and faults as a loop finds them: what is left to say at a place of a text, one place further, and at the end.
 use mathlib.Core.Path.{_≡_, refl, sym, _∙_, ap}
 use mathlib.Core.Bool.{Bool, true, false, not, cond, _&&_, and-true, and-false}
 use mathlib.Core.List.{List, [], _∷_, _++_, append-assoc, append-nil}
-use Prim.Native.Nat.{ℕ, suc, _+_, _-_, _*_, _%_, _≤_, _<_}
+use Prim.Native.Nat.{ℕ, suc, _+_, _-_, _≤_, _<_}
 use native.Mathlib.Numerals.{add-one}
 use native.Mathlib.Nat.{add-zero, zero-add}
 use native.Mathlib.Omega.{arith}
@@ -12,25 +12,11 @@ use lib.Seq.{drop-cons, take-all}
 use borrow.Author.Tests.{eq-eqb, ne-eqb}
 use Rattle.pane.specs.Shown.{_⊕_}
 use Rattle.pane.specs.Faults.{faultOf, faultsFrom, faultsOf, orElse}
-use Rattle.pane.specs.Typed.{isBlank, keyFrom, keyOf, same, wordFrom, wordOf, wordsFrom, wordsOf}
+use Rattle.pane.specs.Typed.{isBlank, same, wordFrom, wordOf, wordsFrom, wordsOf}
 
 -- the character at a place, and the rest
 next : (t : List ℕ) (i : ℕ) {b : ℕ} → i < length t → b ≡ getD t i 0 → drop i t ≡ b ∷ drop (i + 1) t
 next t i h e = rw (e, add-one) (drop-cons t i 0 h)
-
--- ---- keys
-
-module _ (t : List ℕ) (i key : ℕ) (inv : keyOf t ≡ keyFrom key (drop i t)) where
-  -- one character more
-  pub key-more :
-      {b : ℕ} → i < length t → b ≡ getD t i 0 → keyOf t ≡ keyFrom (key % 72057594037927936 * 256 + b) (drop (i + 1) t)
-  unfolding keyFrom
-  key-more h e = inv ∙ ap (keyFrom key) (next t i h e)
-
-  -- no more characters
-  pub key-done : length t ≤ i → key ≡ keyOf t
-  unfolding keyFrom
-  key-done h = sym (inv ∙ ap (keyFrom key) (drop-of-length-le t h))
 
 -- ---- how many words
 

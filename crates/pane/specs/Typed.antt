@@ -1,5 +1,5 @@
 -- What an author types: words, and numbers in hexadecimal with an optional $ or in decimal with a leading +.
-use Prim.Native.Nat.{ℕ, _+_, _-_, _*_, _%_}
+use Prim.Native.Nat.{ℕ, _+_, _-_, _*_}
 use mathlib.Core.Bool.{Bool, true, false, not, cond}
 use mathlib.Core.List.{List, [], _∷_, _++_}
 use lib.Dec.{ltb, leb, eqb}
@@ -31,14 +31,6 @@ wordFrom wanted ended inside (b ∷ s) =
 
 abbrev pub wordOf : ℕ → List ℕ → List ℕ
 wordOf wanted s = wordFrom wanted 0 false s
-
--- a word as one number of eight bytes, the first the most significant; of a longer one the last eight
-unfoldable pub keyFrom : ℕ → List ℕ → ℕ
-keyFrom key [] = key
-keyFrom key (b ∷ s) = keyFrom (key % 72057594037927936 * 256 + b) s
-
-abbrev pub keyOf : List ℕ → ℕ
-keyOf s = keyFrom 0 s
 
 -- whether two texts are the same
 unfoldable pub same : List ℕ → List ℕ → Bool

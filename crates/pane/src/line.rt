@@ -9,7 +9,7 @@ ghost use lib.Dec.{eqb};
 ghost use lib.ListN.{length, take, drop, getD};
 ghost use Rattle.controller.specs.Bytes.{bit, bitOf};
 ghost use Rattle.pane.specs.Shown.{_⊕_, bitsFrom, decimalOf, decimalUpTo, fillFrom, hexDigit, hexOf, padded, textOf};
-ghost use Rattle.pane.specs.Typed.{isBlank, keyOf, numberOf, wordOf, wordsOf};
+ghost use Rattle.pane.specs.Typed.{isBlank, numberOf, wordOf, wordsOf};
 ghost use Rattle.pane.specs.Typed.{same as Typed·same};
 
 pub const WIDTH: usize = 160;
@@ -41,13 +41,6 @@ fn is_blank(byte: u8) -> bool
         return true;
     }
     byte == b'\r'
-}
-
-fn wide(byte: u8) -> u64
-    ensures { λ r. ⌜ r ≡ byte ⌝ }
-    ensures { λ r. ⌜ r ≤ 255 ⌝ }
-{
-    byte as u64
 }
 
 // The bit with a number.
@@ -318,20 +311,6 @@ impl Line {
             i += 1;
         }
         count
-    }
-
-    // The line's bytes as one number, the first the most significant: of a long line its last eight.
-    pub fn key(self) -> u64
-        ensures { λ r. ⌜ r ≡ keyOf (textOf self) ⌝ }
-    {
-        let length = self.length();
-        let mut key = 0;
-        let mut i = 0;
-        while i < length {
-            key = key % 72057594037927936 * 256 + wide(self.byte(i));
-            i += 1;
-        }
-        key
     }
 
     pub fn same(self, other: Line) -> bool

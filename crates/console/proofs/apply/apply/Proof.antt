@@ -142,4 +142,11 @@ returns-14 c =
 pub apply-spec : {M : Type 1} → statement M
 apply-spec =
     tie.close
-    (tie.spec (λ c κs. search needs) (λ c κs. search needs) (λ c κs. search needs) (λ c κs. search needs) (λ c κs. search needs) (λ c κs. search needs) (λ c κs. search needs) (λ c κs. search needs) (λ c κs. search needs) (λ c κs. search needs) (λ c κs. search needs) (λ c κs. search needs) (λ c κs. search needs) (λ c κs. search needs) (λ c κs. search needs) (λ c. search needs) returns (λ c. search needs) returns-2 (λ c. search needs) returns-3 (λ c. search needs) returns-4 (λ c. search needs) returns-5 (λ c. search needs) returns-6 (λ c. search needs) (λ c. search needs) returns-7 (λ c. search needs) (λ c. search needs) returns-8 (λ c. search needs) returns-9 (λ c. search needs) (λ c. search needs) (λ c. search needs) returns-10 (λ c. search needs) (λ c. search needs) (λ c. search needs) returns-11 returns-12 returns-13 returns-14)
+    (tie.spec (λ c κs. search needs) (λ c κs. search needs) (λ c κs. search needs) (λ c κs. search needs)
+    (λ c κs. search needs) (λ c κs. search needs) (λ c κs. search needs) (λ c κs. search needs) (λ c κs. search needs)
+    (λ c κs. search needs) (λ c κs. search needs) (λ c κs. search needs) (λ c κs. search needs) (λ c κs. search needs)
+    (λ c κs. search needs) (λ c. search needs) returns (λ c. search needs) returns-2 (λ c. search needs) returns-3
+    (λ c. search needs) returns-4 (λ c. search needs) returns-5 (λ c. search needs) returns-6 (λ c. search needs)
+    (λ c. search needs) returns-7 (λ c. search needs) (λ c. search needs) returns-8 (λ c. search needs) returns-9
+    (λ c. search needs) (λ c. search needs) (λ c. search needs) returns-10 (λ c. search needs) (λ c. search needs)
+    (λ c. search needs) returns-11 returns-12 returns-13 returns-14)
