@@ -7,6 +7,7 @@ use native.Mathlib.Omega.{arith}
 use lib.Dec.{eqb}
 use lib.ListN.{length}
 use borrow.Author.Tests.{eqb-true, eqb-false, ne-eqb}
+use Rattle.controller.specs.Bytes.{bit, bitOf}
 use Rattle.controller.specs.declared.reu.Reu.{Reu}
 use Rattle.controller.specs.declared.timing.ReuBusAction.{ReuBusAction}
 use Rattle.controller.specs.declared.timing.ReuBusAction.the-variants.{Cpu, Hold, Transfer}
@@ -35,7 +36,7 @@ module _ (m s : List ℕ) (hm : length m ≡ busSize) (hs : length s ≡ storage
   monitors i = left (cycleOf inputs number i m s)
 
   abbrev pub librarys : List ℕ → (List ℕ × List ℕ × List ℕ)
-  librarys i = left (reuCycle i m s (inputs / 4 % 2) number (inputs % 2) (inputs / 2 % 2))
+  librarys i = left (reuCycle i m s (bitOf (bit inputs 2)) number (bitOf (bit inputs 0)) (bitOf (bit inputs 1)))
 
   abbrev after : (ℕ × List ℕ × List ℕ) → (List ℕ × List ℕ × List ℕ)
   after g = left (cycleBy inputs number m g)
@@ -45,32 +46,32 @@ module _ (m s : List ℕ) (hm : length m ≡ busSize) (hs : length s ≡ storage
 
   -- after the grant: w is the controller, t the storage
   granted : (a : ReuBusAction) (w : Reu) (t : List ℕ) → Sound w → length t ≡ storageSize
-      → after (actionNumber a, packImage w, t) ≡ packed (byAction a w m t number (flag (inputs % 2)))
+      → after (actionNumber a, packImage w, t) ≡ packed (byAction a w m t number (flag (bitOf (bit inputs 0))))
   unfolding cycleBy byAction
   granted Cpu w t sound size = refl
   granted Hold w t sound size = refl
-  granted Transfer w t sound size = ap left (tick-is w sound t size m hm number (inputs % 2))
+  granted Transfer w t sound size = ap left (tick-is w sound t size m hm number (bitOf (bit inputs 0)))
 
   -- on the image of a sound controller
   sound-cycle : (u : Reu) → Sound u → monitors (packImage u) ≡ librarys (packImage u)
   unfolding runReuCycle
   sound-cycle u sound =
-      let high = inputs / 4 % 2 in
-      let phi1 = inputs / 2 % 2 in
+      let high = bitOf (bit inputs 2) in
+      let phi1 = bitOf (bit inputs 1) in
       let g : Granted = busAction u s (flag high) (flag phi1) number in
       let then : SoundPair storageSize (g .0 .reu) (g .1) =
       sound-grant storageSize u s (flag high) (flag phi1) number (record { sound = sound; bytes = bytes; size = hs }) in
       ap after (bus-action-is u sound s hs high phi1 number)
       ∙ granted (g .0 .action) (g .0 .reu) (g .1) (then .sound) (then .size)
-      ∙ sym (ap left (cycle-is u sound s hs m hm high number (inputs % 2) phi1))
+      ∙ sym (ap left (cycle-is u sound s hs m hm high number (bitOf (bit inputs 0)) phi1))
 
   -- an image that is refused is left as it is, and so are bus and storage
   refused : (i : List ℕ) → (openImage i .refusal ≡ 0 → ⊥) → monitors i ≡ librarys i
   unfolding cycleBy
   refused i bad =
-      let high = flag (inputs / 4 % 2) in
-      let phi1 = flag (inputs / 2 % 2) in
-      let low = flag (inputs % 2) in
+      let high = flag (bitOf (bit inputs 2)) in
+      let phi1 = flag (bitOf (bit inputs 1)) in
+      let low = flag (bitOf (bit inputs 0)) in
       let n = refusal (openImage i .refusal) in
       let grant = storage-refused i (openImage i) refl bad n refl s (λ u t. busActionCall u t high phi1 number) in
       let cycle = both-refused i (openImage i) refl bad n refl m s (λ u b t. cycleCall u b t high phi1 number low) in

@@ -13,6 +13,8 @@ use Rattle.pane.proofs.Cuts.{then}
 use Rattle.pane.specs.Answers.{accepted}
 use Rattle.pane.specs.Rows.{longAt}
 use Rattle.pane.specs.Shown.{_⊕_, decimalOf}
+use Rattle.controller.specs.Bytes.{bit, bitOf}
+use Rattle.controller.proofs.Bits.{bit-digit, low-digit}
 use Rattle.console.specs.declared.clock.Clock.{Clock}
 use Rattle.console.specs.declared.step.Cycle.{Cycle}
 use Rattle.console.specs.declared.step.Run.{Run}
@@ -26,15 +28,20 @@ module _ (inputs number : ℕ) (i m s : List ℕ) (grant : ℕ) (j t : List ℕ)
   abbrev done : Cycle
   done = record { grant = grant; access = access % refusalUnit; offset = at % 524288 }
 
+  -- the inputs are bits, which the code takes as digits
+  asked : (grant, j, t) ≡ reuBusAction i s (bitOf (bit inputs 2)) (bitOf (bit inputs 1)) number
+  asked = g ∙ sym (λ x. reuBusAction i s (bit-digit inputs 2 x) (bit-digit inputs 1 x) number)
+
   -- on Transfer the tick leaves what is left
   pub ticked : (k : ℕ × List ℕ × List ℕ × List ℕ) → grant ≡ 2 → k ≡ reuTickDma j m t number (inputs % 2)
       → (done, k .1, k .2, k .3) ≡ cycleOf inputs number i m s
   unfolding cycleBy
   ticked k h p =
+      let q : k ≡ reuTickDma j m t number (bitOf (bit inputs 0)) = p ∙ sym (ap (reuTickDma j m t number) (low-digit inputs)) in
       let by : (done, k .1, k .2, k .3) ≡ cycleBy inputs number m (grant, j, t) =
       rw (eq-eqb grant 2 h)
-      (λ x. (record { grant = grant; access = a x % refusalUnit; offset = o x % 524288 }, p x .1, p x .2, p x .3)) in
-      by ∙ ap (cycleBy inputs number m) g
+      (λ x. (record { grant = grant; access = a x % refusalUnit; offset = o x % 524288 }, q x .1, q x .2, q x .3)) in
+      by ∙ ap (cycleBy inputs number m) asked
 
   -- on any other grant that is all
   pub granted : (grant ≡ 2 → ⊥) → (done, j, m, t) ≡ cycleOf inputs number i m s
@@ -42,7 +49,7 @@ module _ (inputs number : ℕ) (i m s : List ℕ) (grant : ℕ) (j t : List ℕ)
   granted h =
       let by : (done, j, m, t) ≡ cycleBy inputs number m (grant, j, t) =
       rw (ne-eqb grant 2 h) (λ x. (record { grant = grant; access = a x % refusalUnit; offset = o x % 524288 }, j, m, t)) in
-      by ∙ ap (cycleBy inputs number m) g
+      by ∙ ap (cycleBy inputs number m) asked
 
 -- its line, from its parts
 module _ (c : Clock) (done : Cycle) (m s : List ℕ) {none number ba granted : List ℕ} {letter : ℕ} {test : Bool}

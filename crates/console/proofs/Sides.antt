@@ -13,9 +13,9 @@ pub both : (a b : Bool) → a && b ≡ cond a b false
 both true b = refl
 both false b = refl
 
-pub either : (a b : Bool) → a || b ≡ cond a true b
-either true b = refl
-either false b = refl
+pub or-is : (a b : Bool) → a || b ≡ cond a true b
+or-is true b = refl
+or-is false b = refl
 
 -- a row and another beside it, once it is known whether they agree and whether it is shown
 pub decided :

@@ -4,6 +4,7 @@ use mathlib.Core.Bool.{cond}
 use mathlib.Core.List.{List, [], _∷_}
 use lib.Dec.{eqb}
 use lib.ListN.{getD}
+use Rattle.controller.specs.Bytes.{bit, bitOf}
 use Rattle.reu.specs.Exports.{refusalUnit, reuBusAction, reuC64Access, reuDmaActive, reuTickDma}
 use Rattle.pane.specs.Answers.{accepted, refusedBy}
 use Rattle.pane.specs.Rows.{byteAt, longAt}
@@ -21,12 +22,12 @@ unfoldable pub cycleBy : ℕ → ℕ → List ℕ → (ℕ × List ℕ × List �
 cycleBy inputs number m g =
     let access : ℕ = reuC64Access (g .1) % refusalUnit in
     let done : Cycle = record { grant = g .0; access = access; offset = longAt (g .1) 26 % 524288 } in
-    let k : (ℕ × List ℕ × List ℕ × List ℕ) = reuTickDma (g .1) m (g .2) number (inputs % 2) in
+    let k : (ℕ × List ℕ × List ℕ × List ℕ) = reuTickDma (g .1) m (g .2) number (bitOf (bit inputs 0)) in
     cond (eqb (g .0) 2) (done, k .1, k .2, k .3) (done, g .1, m, g .2)
 
 -- "it asks `bus_action`, ticks on Transfer": the inputs are `ba_high`, `ba_high_phi1` and `ba_low` as bits 2, 1 and 0
 abbrev pub cycleOf : ℕ → ℕ → List ℕ → List ℕ → List ℕ → (Cycle × List ℕ × List ℕ × List ℕ)
-cycleOf inputs number i m s = cycleBy inputs number m (reuBusAction i s (inputs / 4 % 2) (inputs / 2 % 2) number)
+cycleOf inputs number i m s = cycleBy inputs number m (reuBusAction i s (bitOf (bit inputs 2)) (bitOf (bit inputs 1)) number)
 
 -- ---- one cycle, shown
 

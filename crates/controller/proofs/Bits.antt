@@ -22,7 +22,7 @@ digit (suc (suc q)) p h k = absurd (omega arith)
 pub bit-div : (v n : ℕ) → bit v n ≡ eqb (v / 2 ^ n % 2) 1
 bit-div v n = ap (λ (x : ℕ). not (eqb x 0)) (kept v n) ∙ digit (v / 2 ^ n % 2) (2 ^ n) (mod-lt (v / 2 ^ n) (omega arith)) (pow-pos n)
 
--- the bit as a digit, and the digit as the bit
+-- a bit as a digit
 pub bit-digit : (v n : ℕ) → bitOf (bit v n) ≡ v / 2 ^ n % 2
 bit-digit v n = ap bitOf (bit-div v n) ∙ back (v / 2 ^ n % 2) (mod-lt (v / 2 ^ n) (omega arith)) (eqb (v / 2 ^ n % 2) 1) refl
   where
@@ -30,6 +30,10 @@ bit-digit v n = ap bitOf (bit-div v n) ∙ back (v / 2 ^ n % 2) (mod-lt (v / 2 ^
     back q h true e = omega (arith, eqb-true q 1 e)
     back q h false e = omega (arith, eqb-false q 1 e)
 
+pub low-digit : (v : ℕ) → bitOf (bit v 0) ≡ v % 2
+low-digit v = bit-digit v 0 ∙ omega arith
+
+-- a digit that is known, and its bit
 pub bit-one : (v n : ℕ) → bit v n ≡ true → v / 2 ^ n % 2 ≡ 1
 bit-one v n e = eqb-true (v / 2 ^ n % 2) 1 (sym (bit-div v n) ∙ e)
 

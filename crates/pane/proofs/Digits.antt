@@ -58,28 +58,28 @@ abbrev Small : Number → Type 0
 Small n = valueOf n ≤ 16777215
 
 -- one of two, by a test
-either : (t : Bool) (x y : Number) → Small x → (t ≡ false → Small y) → Small (cond t x y)
-either true x y p q = p
-either false x y p q = q refl
+small-either-way : (t : Bool) (x y : Number) → Small x → (t ≡ false → Small y) → Small (cond t x y)
+small-either-way true x y p q = p
+small-either-way false x y p q = q refl
 
 from-small : (base value : ℕ) (s : List ℕ) → value ≤ 16777215 → Small (digitsFrom base value s)
 unfolding digitsFrom
 from-small base value [] h = h
 from-small base value (b ∷ s) h =
-    either (leb base (digitOf b)) _ _ (omega arith)
-    (λ _. either (ltb 16777215 (value * base + digitOf b)) _ _ (omega arith)
+    small-either-way (leb base (digitOf b)) _ _ (omega arith)
+    (λ _. small-either-way (ltb 16777215 (value * base + digitOf b)) _ _ (omega arith)
     (λ t. from-small base (value * base + digitOf b) s (ltb-false _ _ t)))
 
 digits-small : (base : ℕ) (s : List ℕ) (from : ℕ) → Small (digitsOf base s from)
 digits-small base s from =
-    either (leb (length s) from) _ _ (omega arith) (λ _. from-small base 0 (drop from s) (omega arith))
+    small-either-way (leb (length s) from) _ _ (omega arith) (λ _. from-small base 0 (drop from s) (omega arith))
 
 small : (s : List ℕ) → valueOf (numberOf s) ≤ 16777215
 unfolding numberOf
 small s =
-    either (eqb (length s) 0) _ _ (omega arith)
-    (λ _. either (eqb (getD s 0 0) 43) _ _ (digits-small 10 s 1)
-    (λ _. either (eqb (getD s 0 0) 36) _ _ (digits-small 16 s 1) (λ _. digits-small 16 s 0)))
+    small-either-way (eqb (length s) 0) _ _ (omega arith)
+    (λ _. small-either-way (eqb (getD s 0 0) 43) _ _ (digits-small 10 s 1)
+    (λ _. small-either-way (eqb (getD s 0 0) 36) _ _ (digits-small 16 s 1) (λ _. digits-small 16 s 0)))
 
 -- what is known of its value
 pub known :

@@ -4,14 +4,10 @@ use Prim.Native.Nat.{ℕ, _+_, _-_, _/_, _%_}
 use native.Mathlib.Omega.{arith}
 use borrow.Author.Tests.{le-ltb, lt-ltb}
 use Rattle.script.specs.Operations.{cyclesRow, playCycles}
-use Rattle.controller.specs.Bytes.{bit, bitOf}
-use Rattle.controller.proofs.Bits.{bit-digit}
+use Rattle.controller.proofs.Bits.{bit-digit, low-digit}
 use borrow.Author.Needs.{needs}
 use Rattle.script.proofs.cycle_rows.on_cycles.Statement.{statement}
 use Rattle.script.proofs.cycle_rows.on_cycles.Tie as tie
-
-low-bit : (o : ℕ) → bitOf (bit o 0) ≡ o % 2
-low-bit o = bit-digit o 0 ∙ omega arith
 
 returns : tie.Need-returns
 unfolding cyclesRow
@@ -22,7 +18,7 @@ returns c =
     let first = its-args .place in
     let count : first + its-args .value - first ≡ its-args .value = omega arith in
     let o = its-args .operation in
-    rw (lt-ltb _ 40 (its-if1 .taken), low-bit o, bit-digit o 1, bit-digit o 2)
+    rw (lt-ltb _ 40 (its-if1 .taken), low-digit o, bit-digit o 1, bit-digit o 2)
     (its-ticks .ensures
     ∙ ap
     (λ (n : ℕ). playCycles (o % 2) (o / 2 % 2) (o / 4 % 2) n first
@@ -36,7 +32,7 @@ returns-2 c =
     let its-if2 = c .before .before .before .before .before .before .before .before .before .before .if2 in
     let its-granted = c .before .before .before .before .before .before .granted in
     let o = c .before .before .before .before .before .before .before .before .before .before .before .before .before .before .before .args .operation in
-    rw (le-ltb _ 40 (its-if1 .left), lt-ltb _ 44 (its-if2 .taken), low-bit o, bit-digit o 1) (its-granted .ensures)
+    rw (le-ltb _ 40 (its-if1 .left), lt-ltb _ 44 (its-if2 .taken), low-digit o, bit-digit o 1) (its-granted .ensures)
 
 returns-3 : tie.Need-returns-3
 unfolding cyclesRow
