@@ -71,7 +71,7 @@ wrote r c = accepts c && writesTo r (c .kind)
 abbrev pub granted : Call → Bool
 granted c = accepts c && eqb (grantOf (c .kind) (c .lent)) (actionNumber Transfer)
 
--- "every BA input is high"; a flag is false if it is 0
+-- "every BA input is high"; a flag is false if it is 0. `ba_low` only says whether the end sets the release flag, and is left free
 abbrev pub High : Kind → Type 0
 High (read address) = Unit {0}
 High (write address value) = Unit {0}

@@ -13,7 +13,8 @@ pub fn round_trips()
     ensures { λ r. ⌜ RoundTrips ⌝ }
 {}
 
-// Every image that accepted calls reach from a new controller is accepted, and opens as the controller that it packs.
+// Every image that accepted calls reach from a new controller is accepted, and opens as the controller that it packs, whatever bus and
+// storage each call is lent; and an accepted call on an accepted image leaves one.
 pub fn every_state_opens()
     ensures { λ r. ⌜ EveryStateOpens ⌝ }
 {}
