@@ -18,9 +18,9 @@ mod operations;
 mod row;
 
 ghost use mathlib.Core.Path.{_≡_};
-ghost use mathlib.Core.Bool.{cond};
 ghost use Prim.Native.Nat.{_≤_};
 ghost use lib.ListN.{replicate};
+ghost use Rattle.controller.specs.Bytes.{bitOf};
 ghost use Rattle.script.specs.Lines.{playTable};
 
 pub const AT: u64 = 0x1_0000;
@@ -147,7 +147,7 @@ pub const HOLD: u64 = 1;
 pub const TRANSFER: u64 = 2;
 
 fn one(is: bool) -> usize
-    ensures { λ r. ⌜ r ≡ cond is 1 0 ⌝ }
+    ensures { λ r. ⌜ r ≡ bitOf is ⌝ }
     ensures { λ r. ⌜ r ≤ 1 ⌝ }
 {
     if is { 1 } else { 0 }
