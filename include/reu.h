@@ -6,9 +6,9 @@
  * source on the language's abstract machine (the compiler's back end is not covered).
  * It allocates nothing and keeps nothing between calls: everything stands in three buffers of the host.
  *
- *   image    34 bytes       the whole controller: registers, flags and the running transfer
- *   bus      65,536 bytes   the memory that the controller sees as the C64's
- *   storage  524,288 bytes  the expansion memory
+ *   image    REU_IMAGE_SIZE bytes  the whole controller: registers, flags and the running transfer
+ *   bus      65,536 bytes          the memory that the controller sees as the C64's
+ *   storage  524,288 bytes         the expansion memory
  *
  * A store of one byte, from $1000 to expansion address 0:
  *
@@ -25,7 +25,7 @@
  * Refusal 0 means that the call was accepted. A refused call has value 0 and changes no byte of any buffer.
  * The tests come in this order, each only where the call takes that buffer:
  *
- *   1  the image's length is not 34
+ *   1  the image's length is not REU_IMAGE_SIZE
  *   2  the image has a field that no controller can have (see THE IMAGE); reu_new() does not test this
  *   3  the bus's length is not 65,536
  *   4  the storage's length is not 524,288
@@ -63,8 +63,7 @@ extern "C" {
 
 #define REU_VERSION "0.1.0"
 
-/* Lengths of the buffers. */
-#define REU_IMAGE_SIZE 34
+/* Lengths of the buffers; REU_IMAGE_SIZE stands behind the image's places. */
 #define REU_BUS_SIZE 65536
 #define REU_STORAGE_SIZE 524288
 
@@ -130,22 +129,24 @@ extern "C" {
  * low byte first. Registers and shadows may have any value; the other fields are refused (2) outside the values given,
  * and so are a transfer while the storage is not attached, a write phase without swap, and a verify tail without verify
  * or with a remaining length other than 1. Without a transfer all bytes from REU_IMAGE_TYPE on are 0.
+ * Each place is the one before plus its width, so a field reaches up to the next place.
  */
-#define REU_IMAGE_REGISTERS 0            /* 11 bytes, by index, as held */
-#define REU_IMAGE_SHADOW_C64 11          /* 2 bytes: what Autoload restores */
-#define REU_IMAGE_SHADOW_EXPANSION 13    /* 3 bytes */
-#define REU_IMAGE_SHADOW_LENGTH 16       /* 2 bytes */
-#define REU_IMAGE_FLAGS 18               /* REU_FLAG_ENABLED to REU_FLAG_LATE_FALL */
-#define REU_IMAGE_MORE_FLAGS 19          /* REU_FLAG_REFRESH and REU_FLAG_RELEASE; no other bit */
-#define REU_IMAGE_DELAY 20               /* 0 to 2 */
-#define REU_IMAGE_TRANSFER 21            /* 1: a transfer is running; else 0 */
-#define REU_IMAGE_TYPE 22                /* REU_STORE to REU_VERIFY */
-#define REU_IMAGE_PHASE 23               /* 0 read, 1 write */
-#define REU_IMAGE_C64_ADDRESS 24         /* 2 bytes */
-#define REU_IMAGE_EXPANSION_ADDRESS 26   /* 3 bytes */
-#define REU_IMAGE_REMAINING 29           /* 3 bytes: 1 to 65,536 */
-#define REU_IMAGE_LATCH 32               /* any byte */
-#define REU_IMAGE_TRANSFER_FLAGS 33      /* REU_TRANSFER_FIX_C64 to REU_TRANSFER_TAIL; no other bit */
+#define REU_IMAGE_REGISTERS 0                                    /* by index, as held */
+#define REU_IMAGE_SHADOW_C64 (REU_IMAGE_REGISTERS + REU_REGISTER_COUNT) /* for Autoload: C64 address */
+#define REU_IMAGE_SHADOW_EXPANSION (REU_IMAGE_SHADOW_C64 + 2)    /* expansion address */
+#define REU_IMAGE_SHADOW_LENGTH (REU_IMAGE_SHADOW_EXPANSION + 3) /* length */
+#define REU_IMAGE_FLAGS (REU_IMAGE_SHADOW_LENGTH + 2)            /* REU_FLAG_ENABLED to REU_FLAG_LATE_FALL */
+#define REU_IMAGE_MORE_FLAGS (REU_IMAGE_FLAGS + 1)               /* REU_FLAG_REFRESH and REU_FLAG_RELEASE only */
+#define REU_IMAGE_DELAY (REU_IMAGE_MORE_FLAGS + 1)               /* 0 to 2 */
+#define REU_IMAGE_TRANSFER (REU_IMAGE_DELAY + 1)                 /* 1: a transfer is running; else 0 */
+#define REU_IMAGE_TYPE (REU_IMAGE_TRANSFER + 1)                  /* REU_STORE to REU_VERIFY */
+#define REU_IMAGE_PHASE (REU_IMAGE_TYPE + 1)                     /* 0 read, 1 write */
+#define REU_IMAGE_C64_ADDRESS (REU_IMAGE_PHASE + 1)              /* where the transfer is on the C64's side */
+#define REU_IMAGE_EXPANSION_ADDRESS (REU_IMAGE_C64_ADDRESS + 2)  /* where it is in the expansion memory */
+#define REU_IMAGE_REMAINING (REU_IMAGE_EXPANSION_ADDRESS + 3)    /* the bytes that are left: 1 to 65,536 */
+#define REU_IMAGE_LATCH (REU_IMAGE_REMAINING + 3)                /* any byte */
+#define REU_IMAGE_TRANSFER_FLAGS (REU_IMAGE_LATCH + 1)           /* REU_TRANSFER_FIX_C64 to REU_TRANSFER_TAIL only */
+#define REU_IMAGE_SIZE (REU_IMAGE_TRANSFER_FLAGS + 1)            /* the length of an image */
 
 /* Byte REU_IMAGE_FLAGS. */
 #define REU_FLAG_ENABLED 0x01

@@ -4,13 +4,15 @@
 //!
 //! COUNT is the cycles of idle work, and the bytes of a transfer. tools/count-step compiles and runs this.
 
+#[allow(dead_code)] // of the numbers only the lengths are used
+#[path = "../../rust/src/constants.rs"]
+mod constants;
 #[path = "../bench/src/screen.rs"]
 mod screen;
 
+use constants::{BUS_SIZE, STORAGE_SIZE};
 use screen::Ba;
 
-const BUS_BYTES: usize = 65_536;
-const STORAGE_BYTES: usize = 524_288;
 const C64_START: usize = 0x0400;
 const BANK: u8 = 2;
 const EXPANSION_START: usize = 0x1_0000 * BANK as usize;
@@ -42,7 +44,7 @@ fn bits(ba: &Ba) -> u8 {
 
 /// The cycles run, and the memories after them.
 fn run(count: u16, command: u8, inputs: &[Ba], expected: u32, limit: u64) -> (u64, Vec<u8>, Vec<u8>) {
-    let (mut bus, mut storage) = (filled(), vec![0; STORAGE_BYTES]);
+    let (mut bus, mut storage) = (filled(), vec![0; STORAGE_SIZE]);
     let inputs: Vec<u8> = inputs.iter().map(bits).collect();
     let [low, high] = count.to_le_bytes();
     let registers = [0x00, (C64_START >> 8) as u8, 0x00, 0x00, BANK, low, high];
@@ -58,12 +60,12 @@ fn run(count: u16, command: u8, inputs: &[Ba], expected: u32, limit: u64) -> (u6
 
 /// A bus of which no byte is 0, as the storage's are.
 fn filled() -> Vec<u8> {
-    (0..BUS_BYTES).map(|at| 1 + (at % 251) as u8).collect()
+    (0..BUS_SIZE).map(|at| 1 + (at % 251) as u8).collect()
 }
 
 /// What the memories must be after a transfer: on the storage's side the bus's bytes, on the bus's side zeros if swapped.
 fn after(count: usize, swapped: bool) -> (Vec<u8>, Vec<u8>) {
-    let (mut bus, mut storage) = (filled(), vec![0; STORAGE_BYTES]);
+    let (mut bus, mut storage) = (filled(), vec![0; STORAGE_SIZE]);
     let block = &mut bus[C64_START..][..count];
     storage[EXPANSION_START..][..count].copy_from_slice(block);
     if swapped {

@@ -8,13 +8,13 @@ use std::{error, fmt};
 /// The library tests in this order, each only where the call takes that buffer.
 #[derive(Clone, Copy, Debug, PartialEq, Eq)]
 pub enum Refusal {
-    /// 1: the image's length is not 34.
+    /// 1: the image's length is not [`IMAGE_SIZE`].
     ImageLength,
     /// 2: the image has a field that no controller can have.
     ImageField,
-    /// 3: the bus's length is not 65,536.
+    /// 3: the bus's length is not [`BUS_SIZE`].
     BusLength,
-    /// 4: the storage's length is not 524,288.
+    /// 4: the storage's length is not [`STORAGE_SIZE`].
     StorageLength,
 }
 

@@ -1,9 +1,7 @@
 //! The numbers of `include/reu.h` under the same names, without the prefix `REU_`.
 
-// Lengths of the buffers.
+// Lengths of the buffers; an image's is [`IMAGE_SIZE`], behind its places.
 
-/// Bytes of an image.
-pub const IMAGE_SIZE: usize = 34;
 /// Bytes of a bus.
 pub const BUS_SIZE: usize = 65536;
 /// Bytes of a storage.
@@ -13,13 +11,13 @@ pub const STORAGE_SIZE: usize = 524288;
 
 /// Not refused.
 pub const ACCEPTED: u32 = 0;
-/// The image's length is not 34.
+/// The image's length is not [`IMAGE_SIZE`].
 pub const REFUSED_IMAGE_LENGTH: u32 = 1;
 /// The image has a field that no controller can have.
 pub const REFUSED_IMAGE_FIELD: u32 = 2;
-/// The bus's length is not 65,536.
+/// The bus's length is not [`BUS_SIZE`].
 pub const REFUSED_BUS_LENGTH: u32 = 3;
-/// The storage's length is not 524,288.
+/// The storage's length is not [`STORAGE_SIZE`].
 pub const REFUSED_STORAGE_LENGTH: u32 = 4;
 
 // Grants: the value of `bus_action`.
@@ -112,38 +110,40 @@ pub const ADDRESS_CONTROL_FIX_EXPANSION: u8 = 0x40;
 /// The C64 address does not step.
 pub const ADDRESS_CONTROL_FIX_C64: u8 = 0x80;
 
-// Places in an image; numbers of more than one byte have their low byte first.
+// Places in an image, each the one before plus its width. Numbers of more than one byte have their low byte first.
 
-/// 11 bytes, by index, as held.
+/// The registers, by index, as held.
 pub const IMAGE_REGISTERS: usize = 0;
-/// 2 bytes: what Autoload restores.
-pub const IMAGE_SHADOW_C64: usize = 11;
-/// 3 bytes.
-pub const IMAGE_SHADOW_EXPANSION: usize = 13;
-/// 2 bytes.
-pub const IMAGE_SHADOW_LENGTH: usize = 16;
+/// What Autoload restores: the C64 address.
+pub const IMAGE_SHADOW_C64: usize = IMAGE_REGISTERS + REGISTER_COUNT;
+/// The expansion address that it restores.
+pub const IMAGE_SHADOW_EXPANSION: usize = IMAGE_SHADOW_C64 + 2;
+/// The length that it restores.
+pub const IMAGE_SHADOW_LENGTH: usize = IMAGE_SHADOW_EXPANSION + 3;
 /// `FLAG_ENABLED` to `FLAG_LATE_FALL`.
-pub const IMAGE_FLAGS: usize = 18;
+pub const IMAGE_FLAGS: usize = IMAGE_SHADOW_LENGTH + 2;
 /// `FLAG_REFRESH` and `FLAG_RELEASE`; no other bit.
-pub const IMAGE_MORE_FLAGS: usize = 19;
+pub const IMAGE_MORE_FLAGS: usize = IMAGE_FLAGS + 1;
 /// 0 to 2.
-pub const IMAGE_DELAY: usize = 20;
+pub const IMAGE_DELAY: usize = IMAGE_MORE_FLAGS + 1;
 /// 1: a transfer is running; else 0.
-pub const IMAGE_TRANSFER: usize = 21;
+pub const IMAGE_TRANSFER: usize = IMAGE_DELAY + 1;
 /// `STORE` to `VERIFY`.
-pub const IMAGE_TYPE: usize = 22;
+pub const IMAGE_TYPE: usize = IMAGE_TRANSFER + 1;
 /// 0 read, 1 write.
-pub const IMAGE_PHASE: usize = 23;
-/// 2 bytes.
-pub const IMAGE_C64_ADDRESS: usize = 24;
-/// 3 bytes.
-pub const IMAGE_EXPANSION_ADDRESS: usize = 26;
-/// 3 bytes: 1 to 65,536.
-pub const IMAGE_REMAINING: usize = 29;
+pub const IMAGE_PHASE: usize = IMAGE_TYPE + 1;
+/// Where the transfer is on the C64's side.
+pub const IMAGE_C64_ADDRESS: usize = IMAGE_PHASE + 1;
+/// Where it is in the expansion memory.
+pub const IMAGE_EXPANSION_ADDRESS: usize = IMAGE_C64_ADDRESS + 2;
+/// The bytes that are left: 1 to 65,536.
+pub const IMAGE_REMAINING: usize = IMAGE_EXPANSION_ADDRESS + 3;
 /// Any byte.
-pub const IMAGE_LATCH: usize = 32;
+pub const IMAGE_LATCH: usize = IMAGE_REMAINING + 3;
 /// `TRANSFER_FIX_C64` to `TRANSFER_TAIL`; no other bit.
-pub const IMAGE_TRANSFER_FLAGS: usize = 33;
+pub const IMAGE_TRANSFER_FLAGS: usize = IMAGE_LATCH + 1;
+/// Bytes of an image: each field reaches up to the next place, and the last one up to this.
+pub const IMAGE_SIZE: usize = IMAGE_TRANSFER_FLAGS + 1;
 
 // Bits of the byte at `IMAGE_FLAGS`.
 

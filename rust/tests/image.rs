@@ -1,6 +1,7 @@
 //! The named places of an image hold what their names say.
 
 use reu::*;
+use std::ops::Range;
 
 /// An enabled machine with a block at C64 $1234, expansion $FD6789, and COMMAND written.
 fn commanded(length: u16, control: u8, command: u8) -> Machine {
@@ -25,26 +26,27 @@ fn commanded(length: u16, control: u8, command: u8) -> Machine {
     machine
 }
 
-fn number(machine: &Machine, place: usize, bytes: usize) -> usize {
-    machine.image()[place..place + bytes].iter().rev().fold(0, |number, &byte| number * 256 + byte as usize)
+/// The number that a field holds; it reaches up to the next place.
+fn number(machine: &Machine, field: Range<usize>) -> usize {
+    machine.image()[field].iter().rev().fold(0, |number, &byte| number * 256 + byte as usize)
 }
 
 #[test]
 fn numbers() {
     let mut machine = commanded(0x0321, 0x00, 0x92);
-    assert_eq!(number(&machine, IMAGE_SHADOW_C64, 2), 0x1234);
-    assert_eq!(number(&machine, IMAGE_SHADOW_EXPANSION, 3), 0xFD_6789);
-    assert_eq!(number(&machine, IMAGE_SHADOW_LENGTH, 2), 0x0321);
+    assert_eq!(number(&machine, IMAGE_SHADOW_C64..IMAGE_SHADOW_EXPANSION), 0x1234);
+    assert_eq!(number(&machine, IMAGE_SHADOW_EXPANSION..IMAGE_SHADOW_LENGTH), 0xFD_6789);
+    assert_eq!(number(&machine, IMAGE_SHADOW_LENGTH..IMAGE_FLAGS), 0x0321);
     let held: Vec<u8> = (0..REGISTER_COUNT as u64).map(|index| machine.debug_register(index)).collect();
-    assert_eq!(machine.image()[IMAGE_REGISTERS..IMAGE_REGISTERS + REGISTER_COUNT], held);
+    assert_eq!(machine.image()[IMAGE_REGISTERS..IMAGE_SHADOW_C64], held);
     machine.storage_mut()[0xFD_6789 % STORAGE_SIZE] = 0x5A;
     machine.tick_dma(0, false);
     machine.tick_dma(1, false);
-    assert_eq!(number(&machine, IMAGE_C64_ADDRESS, 2), 0x1235);
-    assert_eq!(number(&machine, IMAGE_EXPANSION_ADDRESS, 3), 0xFD_678A);
-    assert_eq!(number(&machine, IMAGE_REMAINING, 3), 0x0320);
-    assert_eq!(number(&machine, IMAGE_LATCH, 1), 0x5A);
-    assert_eq!(number(&commanded(0, 0x00, 0x90), IMAGE_REMAINING, 3), 0x1_0000);
+    assert_eq!(number(&machine, IMAGE_C64_ADDRESS..IMAGE_EXPANSION_ADDRESS), 0x1235);
+    assert_eq!(number(&machine, IMAGE_EXPANSION_ADDRESS..IMAGE_REMAINING), 0xFD_678A);
+    assert_eq!(number(&machine, IMAGE_REMAINING..IMAGE_LATCH), 0x0320);
+    assert_eq!(number(&machine, IMAGE_LATCH..IMAGE_TRANSFER_FLAGS), 0x5A);
+    assert_eq!(number(&commanded(0, 0x00, 0x90), IMAGE_REMAINING..IMAGE_LATCH), 0x1_0000);
 }
 
 #[test]
@@ -149,10 +151,11 @@ fn flags_after_a_fall() {
 fn ranges() {
     let machine = commanded(1, 0x00, 0x93);
     let ranged = [(IMAGE_MORE_FLAGS, 3), (IMAGE_DELAY, 2), (IMAGE_TRANSFER, 1), (IMAGE_TYPE, 3)];
-    let also = [(IMAGE_REMAINING + 2, 1), (IMAGE_TRANSFER_FLAGS, 0x3F)];
+    let top = IMAGE_LATCH - 1; // the last byte of the remaining length
+    let also = [(top, 1), (IMAGE_TRANSFER_FLAGS, 0x3F)];
     for (place, greatest) in ranged.into_iter().chain(also) {
         let mut image = *machine.image();
-        image[IMAGE_REMAINING] = u8::from(place != IMAGE_REMAINING + 2); // 1, or beside the third byte 0
+        image[IMAGE_REMAINING] = u8::from(place != top); // 1, or below the last byte 0
         image[place] = greatest;
         assert_eq!(calls::dma_active(&image), Ok(true), "{place}");
         image[place] += 1;

@@ -1,6 +1,6 @@
 //! The sixteen recorded sessions of the original, run through a machine.
 
-use reu::{Grant, Machine};
+use reu::{Grant, Machine, STORAGE_SIZE};
 
 fn enabled() -> Machine {
     let mut machine = Machine::new();
@@ -141,7 +141,7 @@ fn r14_wraps() {
     machine.write(0xDF06, 0xFF);
     machine.write(0xDF01, 0x90);
     run(&mut machine, 2);
-    assert_eq!((machine.storage()[524_287], machine.storage()[0]), (0xAA, 0xBB));
+    assert_eq!((machine.storage()[STORAGE_SIZE - 1], machine.storage()[0]), (0xAA, 0xBB));
     assert_eq!(held(&machine, &[2, 3, 6]), [0x01, 0x00, 0x00]);
 }
 

@@ -143,8 +143,9 @@ fn any_flag_but_0_is_true() {
     for (flag, grant) in [(0, 1), (1, 2), (2, 2), (0x100, 2), (0x1_0000, 2), (u32::MAX, 2)] {
         let mut image = image;
         // SAFETY: the pointers are valid for their lengths and the buffers are two.
-        let answer =
-            unsafe { raw::reu_bus_action(image.as_mut_ptr(), 34, storage.as_mut_ptr(), storage.len(), 1, flag, 0) };
+        let answer = unsafe {
+            raw::reu_bus_action(image.as_mut_ptr(), IMAGE_SIZE, storage.as_mut_ptr(), storage.len(), 1, flag, 0)
+        };
         assert_eq!(answer, grant, "flag {flag:#x}");
     }
 }

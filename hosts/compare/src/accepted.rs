@@ -1,18 +1,20 @@
-//! Refusals 1 to 4 as document 01 gives them.
+//! Refusals 1 to 4 as document 01 gives them. Only the places and the lengths are the Rust crate's: what a field may be is
+//! told here once more, apart from the library.
 
 use crate::calls::Call;
-use crate::sides::{BUS, IMAGE, STORAGE};
+use crate::sides::{BUS, IMAGE, STORAGE, number};
+use ::reu::*;
 
-/// Bytes 21 to 33 of an image that is attached or not.
+/// The transfer of an image that is attached or not.
 fn transfer_accepted(image: &[u8], attached: bool) -> bool {
-    if image[21] == 0 {
-        return image[22..IMAGE].iter().all(|byte| *byte == 0);
+    if image[IMAGE_TRANSFER] == 0 {
+        return image[IMAGE_TYPE..].iter().all(|byte| *byte == 0);
     }
-    let (kind, phase, flags) = (image[22], image[23], image[33]);
-    let remaining = u32::from_le_bytes([image[29], image[30], image[31], 0]);
+    let (kind, phase, flags) = (image[IMAGE_TYPE], image[IMAGE_PHASE], image[IMAGE_TRANSFER_FLAGS]);
+    let remaining = number(&image[IMAGE_REMAINING..IMAGE_LATCH]);
     let tail = flags & 0x20 != 0;
     attached
-        && image[21] == 1
+        && image[IMAGE_TRANSFER] == 1
         && kind <= 3
         && phase <= 1
         && (1..=65_536).contains(&remaining)
@@ -21,10 +23,10 @@ fn transfer_accepted(image: &[u8], attached: bool) -> bool {
         && (!tail || (kind == 3 && remaining == 1))
 }
 
-/// Whether 34 bytes are a controller.
+/// Whether an image of the right length is a controller.
 pub fn accepted(image: &[u8]) -> bool {
-    let attached = image[18] & 4 != 0;
-    image[19] <= 3 && image[20] <= 2 && transfer_accepted(image, attached)
+    let attached = image[IMAGE_FLAGS] & 4 != 0;
+    image[IMAGE_MORE_FLAGS] <= 3 && image[IMAGE_DELAY] <= 2 && transfer_accepted(image, attached)
 }
 
 /// The refusal number of a call that is lent this image and buffers of these lengths; 0 if it is accepted.

@@ -6,7 +6,11 @@ use crate::generate::Generator;
 use crate::refusals::Refuser;
 use crate::rng::{Rng, noise};
 use crate::sessions::grant;
-use crate::sides::{BUS, Image, Machine, STORAGE};
+use crate::sides::{BUS, Image, Machine, STORAGE, register};
+use reu::{
+    ADDRESS_CONTROL, COMMAND, COMMAND_EXECUTE, FLAG_ARMED, FLAG_ATTACHED, IMAGE_FLAGS, IMAGE_TRANSFER,
+    TRANSFER_LENGTH_HIGH, TRANSFER_LENGTH_LOW,
+};
 
 /// One machine on its way through a list, with the bytes that both runs begin with.
 struct Walk<'a> {
@@ -28,13 +32,13 @@ fn check(holds: bool, what: &str) -> Result<(), String> {
     if holds { Ok(()) } else { Err(format!("demand 3: {what}")) }
 }
 
-/// Any accepted image that is unfixed, attached, unarmed and idle by bytes 10, 18 and 21.
+/// Any accepted image that is unfixed, attached, unarmed and idle, with this length.
 fn start_image(generator: &mut Generator, length: [u8; 2]) -> Image {
     let mut image = generator.image();
-    image[10] &= 0x3F;
-    image[18] = (image[18] | 4) & !8;
-    image[21..].fill(0);
-    image[7..9].copy_from_slice(&length);
+    image[register(ADDRESS_CONTROL)] &= 0x3F;
+    image[IMAGE_FLAGS] = (image[IMAGE_FLAGS] | FLAG_ATTACHED) & !FLAG_ARMED;
+    image[IMAGE_TRANSFER..].fill(0);
+    image[register(TRANSFER_LENGTH_LOW)..=register(TRANSFER_LENGTH_HIGH)].copy_from_slice(&length);
     image
 }
 
@@ -91,7 +95,7 @@ impl Walk<'_> {
         self.write(1, command);
         let (mut granted, mut cycles) = (0, 0);
         while granted < 2 * length {
-            check(self.machine.image()[1] & 0x80 != 0, "the swap ended too early")?;
+            check(self.machine.image()[register(COMMAND)] & COMMAND_EXECUTE != 0, "the swap ended too early")?;
             cycles += 1;
             check(cycles <= 4 * length + 16, "the swap is not granted its cycles")?;
             if self.rng.one_in(64) {
@@ -103,7 +107,10 @@ impl Walk<'_> {
             }
             check(self.machine.call(cycle) == 1, "a cycle of the swap was the processor's")?;
         }
-        check(self.machine.image()[1] & 0x80 == 0, "the swap did not end at 2n granted cycles")
+        check(
+            self.machine.image()[register(COMMAND)] & COMMAND_EXECUTE == 0,
+            "the swap did not end at 2n granted cycles",
+        )
     }
 
     fn memories_are(&self, bus: &[u8], storage: &[u8]) -> bool {

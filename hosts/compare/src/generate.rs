@@ -3,7 +3,8 @@
 use crate::accepted::accepted;
 use crate::calls::{Call, NAMES, Step};
 use crate::rng::Rng;
-use crate::sides::{Image, places};
+use crate::sides::{IMAGE, Image, places, set_number};
+use reu::*;
 
 /// How the BA inputs of a list move.
 #[derive(Clone, Copy)]
@@ -227,7 +228,8 @@ impl Generator {
 
     /// The next step of a list whose controller is as this image has it.
     pub fn next(&mut self, image: &Image) -> Step {
-        let (running, attached, armed) = (image[21] == 1, image[18] & 4 != 0, image[18] & 8 != 0);
+        let running = image[IMAGE_TRANSFER] == 1;
+        let [attached, armed] = [FLAG_ATTACHED, FLAG_ARMED].map(|flag| image[IMAGE_FLAGS] & flag != 0);
         if self.rng.one_in(self.quiet) {
             return self.anything(image);
         }
@@ -251,38 +253,38 @@ impl Generator {
 
     /// Any image that is accepted, reached from new or not.
     pub fn image(&mut self) -> Image {
-        let mut image = [0; 34];
-        image[..22].fill_with(|| self.rng.byte());
-        image[19] = self.rng.pick(&[0, 0, 0, 1, 2, 3]);
-        image[20] = self.rng.pick(&[0, 0, 0, 1, 2]);
-        image[21] = u8::from(self.rng.below(4) != 0);
+        let mut image = [0; IMAGE];
+        image[..IMAGE_TYPE].fill_with(|| self.rng.byte());
+        image[IMAGE_MORE_FLAGS] = self.rng.pick(&[0, 0, 0, 1, 2, 3]);
+        image[IMAGE_DELAY] = self.rng.pick(&[0, 0, 0, 1, 2]);
+        image[IMAGE_TRANSFER] = u8::from(self.rng.below(4) != 0);
         if self.rng.one_in(2) {
-            image[18] &= 0x17;
+            image[IMAGE_FLAGS] &= FLAG_ENABLED | FLAG_INTERRUPT | FLAG_ATTACHED | FLAG_BA_WAS_HIGH;
         }
-        if image[21] == 1 {
+        if image[IMAGE_TRANSFER] == 1 {
             self.image_transfer(&mut image);
         }
         assert!(accepted(&image), "the generator makes accepted images: {image:?}");
         image
     }
 
-    /// Bytes 22 to 33, and the attached flag that they need.
+    /// The transfer, and the attached flag that it needs.
     fn image_transfer(&mut self, image: &mut Image) {
-        image[18] |= 4;
-        image[22] = self.rng.below(4) as u8;
-        image[23] = u8::from(image[22] == 2 && self.rng.one_in(2));
+        image[IMAGE_FLAGS] |= FLAG_ATTACHED;
+        image[IMAGE_TYPE] = self.rng.below(4) as u8;
+        image[IMAGE_PHASE] = u8::from(image[IMAGE_TYPE] == SWAP && self.rng.one_in(2));
         let any = self.rng.word();
         let c64 = if self.rng.one_in(2) { any as u16 } else { self.rng.pick(&C64) };
         let expansion = if self.rng.one_in(2) { (any >> 16) as u32 } else { self.rng.pick(&EXPANSION) };
         let length = u32::from(self.rng.pick(&LENGTHS)).max(1);
         let remaining = self.rng.pick(&[1, 1, 2, 2, 3, length, 65_535, 65_536, 1 + (any >> 48) as u32]);
-        image[24..26].copy_from_slice(&c64.to_le_bytes());
-        image[26..29].copy_from_slice(&expansion.to_le_bytes()[..3]);
-        image[29..32].copy_from_slice(&remaining.to_le_bytes()[..3]);
-        image[32] = self.rng.byte();
-        image[33] = self.rng.byte() & 0x1F;
-        if image[22] == 3 && remaining == 1 && self.rng.one_in(2) {
-            image[33] |= 0x20;
+        set_number(&mut image[IMAGE_C64_ADDRESS..IMAGE_EXPANSION_ADDRESS], c64.into());
+        set_number(&mut image[IMAGE_EXPANSION_ADDRESS..IMAGE_REMAINING], expansion);
+        set_number(&mut image[IMAGE_REMAINING..IMAGE_LATCH], remaining);
+        image[IMAGE_LATCH] = self.rng.byte();
+        image[IMAGE_TRANSFER_FLAGS] = self.rng.byte() & (TRANSFER_TAIL - 1);
+        if image[IMAGE_TYPE] == VERIFY && remaining == 1 && self.rng.one_in(2) {
+            image[IMAGE_TRANSFER_FLAGS] |= TRANSFER_TAIL;
         }
     }
 }

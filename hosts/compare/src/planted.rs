@@ -11,8 +11,9 @@ use crate::compare::{Pair, Run, caught_by};
 use crate::copies::{COPIES, CallOn};
 use crate::reference::Original;
 use crate::refusals::Refusals;
-use crate::sides::{Held, IMAGE, Lent, Port, REFUSAL};
+use crate::sides::{Held, IMAGE, Lent, Port, REFUSAL, register};
 use crate::{demand3, sessions};
+use reu::*;
 use std::panic::{AssertUnwindSafe, catch_unwind};
 use table::PLANTED;
 
@@ -53,11 +54,12 @@ const WRAPPED: &[Bug] = &[
         if matches!(call, Call::Read { .. }) { 0xFF } else { answer }
     }),
     ("the cycle leaves everything alone", Breaks::Session(4), |call, lent| match call {
-        Call::RunReuCycle { .. } if lent.image.len() == IMAGE => u32::from(lent.image[21]),
+        Call::RunReuCycle { .. } if lent.image.len() == IMAGE => u32::from(lent.image[IMAGE_TRANSFER]),
         _ => right(call, lent),
     }),
     ("the first cycle of a live command answers 0", Breaks::Anything, |call, lent| {
-        let first = matches!(call, Call::RunReuCycle { .. }) && lent.image.len() == IMAGE && lent.image[33] & 8 != 0;
+        let flags = lent.image.get(IMAGE_TRANSFER_FLAGS).copied().unwrap_or_default();
+        let first = matches!(call, Call::RunReuCycle { .. }) && flags & TRANSFER_FIRST_BYTE != 0;
         let answer = right(call, lent);
         if first && answer == 1 { 0 } else { answer }
     }),
@@ -66,7 +68,8 @@ const WRAPPED: &[Bug] = &[
         let before = image.to_vec();
         let answer = right(call, Lent { image: &mut *image, bus, storage });
         if matches!(call, Call::RunReuCycle { .. }) && image.len() == IMAGE {
-            image[7..9].copy_from_slice(&before[7..9]);
+            let shown = register(TRANSFER_LENGTH_LOW)..=register(TRANSFER_LENGTH_HIGH);
+            image[shown.clone()].copy_from_slice(&before[shown]);
         }
         answer
     }),
@@ -75,7 +78,7 @@ const WRAPPED: &[Bug] = &[
         let cycle = matches!(call, Call::RunReuCycle { .. });
         for _ in 0..131_072 {
             let answer = right(call, Lent { image: &mut *image, bus: &mut *bus, storage: &mut *storage });
-            let swaps = cycle && answer == 1 && image[22] == 2;
+            let swaps = cycle && answer == 1 && image[IMAGE_TYPE] == SWAP;
             if !swaps {
                 return answer;
             }
@@ -84,7 +87,7 @@ const WRAPPED: &[Bug] = &[
     }),
     ("a swap counts and exchanges nothing", Breaks::Midway, |call, lent| {
         let Lent { image, bus, storage } = lent;
-        let swaps = matches!(call, Call::RunReuCycle { .. }) && image.len() == IMAGE && image[22] == 2;
+        let swaps = matches!(call, Call::RunReuCycle { .. }) && image.len() == IMAGE && image[IMAGE_TYPE] == SWAP;
         let places = image.first_chunk().map_or((0, 0), crate::sides::places);
         let kept = swaps.then(|| (bus.get(places.0).copied(), storage.get(places.1).copied()));
         let answer = right(call, Lent { image, bus: &mut *bus, storage: &mut *storage });
@@ -97,7 +100,7 @@ const WRAPPED: &[Bug] = &[
         let Lent { image, bus, storage } = lent;
         let answer = right(call, Lent { image: &mut *image, bus, storage });
         if answer >= REFUSAL && image.len() == IMAGE {
-            image[0] ^= 0x80;
+            image[register(STATUS)] ^= 0x80;
         }
         answer
     }),

@@ -4,14 +4,15 @@ use crate::accepted::{accepted, refusal};
 use crate::calls::{Call, NAMES};
 use crate::generate::Generator;
 use crate::rng::{Rng, noise};
-use crate::sides::{BUS, IMAGE, Image, Lent, Port, REFUSAL, STORAGE};
+use crate::sides::{BUS, IMAGE, Image, Lent, Port, REFUSAL, STORAGE, set_number};
+use reu::*;
 use std::alloc::{Layout, alloc_zeroed, dealloc};
 
 /// Bytes before what is lent; what lies behind is the rest of the arena.
 const MARGIN: usize = 64;
 /// Whole arenas are looked at after so many calls, and their ends after each.
 const WHOLE_EVERY: u64 = 65_536;
-/// Images that are tried with every value of every byte from 18 on, and rounds of drawn faults.
+/// Images that are tried with every value of every byte behind the shadows, and rounds of drawn faults.
 const BASES: usize = 8;
 const ROUNDS: usize = 1_000;
 
@@ -207,13 +208,13 @@ impl<P: Port> Refusals<P> {
         let (lent, bus, storage) = (self.image.lend(IMAGE), self.bus.lend(BUS), self.storage.lend(STORAGE));
         let answer = self.port.call(Call::DmaActive, Lent { image: lent, bus, storage });
         self.calls += 1;
-        if answer == u32::from(image[21]) {
+        if answer == u32::from(image[IMAGE_TRANSFER]) {
             return Ok(());
         }
         Err(format!("dma_active answers {answer}; accepted image {image:02x?}"))
     }
 
-    /// `new` takes any 34 bytes and leaves the same image as ever.
+    /// `new` takes any bytes of an image's length and leaves the same image as ever.
     fn new_on(&mut self, image: &Image) -> Result<(), String> {
         let mut made = [[0; IMAGE], *image];
         for image in &mut made {
@@ -230,7 +231,7 @@ impl<P: Port> Refusals<P> {
     fn fields(&mut self) -> Result<(), String> {
         for _ in 0..BASES {
             let base = self.generator.image();
-            for (at, value) in (18..IMAGE).flat_map(|at| (0..=255).map(move |value| (at, value))) {
+            for (at, value) in (IMAGE_FLAGS..IMAGE).flat_map(|at| (0..=255).map(move |value| (at, value))) {
                 let mut image = base;
                 image[at] = value;
                 self.image(&image)?;
@@ -239,7 +240,7 @@ impl<P: Port> Refusals<P> {
         for _ in 0..ROUNDS {
             let mut image = self.generator.image();
             for _ in 0..=self.rng.below(3) {
-                let at = 18 + self.rng.below(IMAGE - 18);
+                let at = IMAGE_FLAGS + self.rng.below(IMAGE - IMAGE_FLAGS);
                 image[at] = self.rng.pick(&[0, 1, 2, 3, 4, 0x20, 0x40, 0x80, 0xFF]);
             }
             self.image(&image)?;
@@ -251,15 +252,15 @@ impl<P: Port> Refusals<P> {
     fn crossed_fields(&mut self) -> Result<(), String> {
         for _ in 0..ROUNDS {
             let mut image = self.generator.image();
-            if image[21] == 0 {
+            if image[IMAGE_TRANSFER] == 0 {
                 continue;
             }
-            let remaining: u32 = self.rng.pick(&[0, 1, 2, 65_535, 65_536, 65_537, 65_792, 131_072, 0xFF_FFFF]);
+            let remaining = self.rng.pick(&[0, 1, 2, 65_535, 65_536, 65_537, 65_792, 131_072, 0xFF_FFFF]);
             match self.rng.below(4) {
-                0 => image[18] &= !4,
-                1 => image[23] ^= 1,
-                2 => image[33] ^= 0x20,
-                _ => image[29..32].copy_from_slice(&remaining.to_le_bytes()[..3]),
+                0 => image[IMAGE_FLAGS] &= !FLAG_ATTACHED,
+                1 => image[IMAGE_PHASE] ^= 1,
+                2 => image[IMAGE_TRANSFER_FLAGS] ^= TRANSFER_TAIL,
+                _ => set_number(&mut image[IMAGE_REMAINING..IMAGE_LATCH], remaining),
             }
             self.image(&image)?;
         }
@@ -270,7 +271,9 @@ impl<P: Port> Refusals<P> {
     fn faults(&mut self, call: Call, faults: usize) -> Result<(), String> {
         let mut image = self.generator.image();
         if faults & 2 != 0 {
-            let (at, value) = self.rng.pick(&[(19, 4), (20, 3), (21, 2), (33, 0x40), (23, 2), (22, 4)]);
+            let before = [(IMAGE_MORE_FLAGS, 4), (IMAGE_DELAY, 3), (IMAGE_TRANSFER, 2)];
+            let within = [(IMAGE_TRANSFER_FLAGS, 0x40), (IMAGE_PHASE, 2), (IMAGE_TYPE, 4)];
+            let (at, value) = self.rng.pick(&[before, within].concat());
             image[at] = value;
         }
         self.image.set(&image);

@@ -1,7 +1,7 @@
 //! Document 01's sixteen recorded sessions, on any machine.
 
 use crate::calls::{Call, Step};
-use crate::sides::Machine;
+use crate::sides::{Machine, STORAGE};
 
 /// A machine as the sessions use it: new, enabled, BA high.
 pub struct Desk<'a> {
@@ -210,7 +210,7 @@ fn r14(machine: &mut dyn Machine) -> bool {
     desk.program(0xFFFF, 0xFF_FFFF, 2);
     desk.write(1, 0x90);
     desk.ticks(2);
-    let stored = [desk.machine.storage()[524_287], desk.machine.storage()[0]];
+    let stored = [desk.machine.storage()[STORAGE - 1], desk.machine.storage()[0]];
     stored == [0x5A, 0xA5] && desk.word(2) == 1 && desk.shown(6) == 0
 }
 

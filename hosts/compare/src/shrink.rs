@@ -2,6 +2,7 @@
 
 use crate::calls::Step;
 use crate::compare::Pair;
+use crate::sides::IMAGE;
 use std::time::{Duration, Instant};
 
 /// A list is made shorter for so long at most.
@@ -10,7 +11,7 @@ const PATIENCE: Duration = Duration::from_secs(20);
 /// Both sides as every list that is run again finds them.
 pub fn begin(pair: &mut Pair) {
     pair.tried.mend_guards();
-    for start in [Step::Memory(0), Step::Image([0; 34])] {
+    for start in [Step::Memory(0), Step::Image([0; IMAGE])] {
         pair.tried.step(start);
         pair.right.step(start);
     }

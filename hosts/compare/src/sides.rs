@@ -3,10 +3,9 @@
 
 use crate::calls::{Call, Step};
 use crate::rng::fill;
+pub use reu::{BUS_SIZE as BUS, IMAGE_SIZE as IMAGE, STORAGE_SIZE as STORAGE};
+use reu::{FLAG_INTERRUPT, IMAGE_C64_ADDRESS, IMAGE_EXPANSION_ADDRESS, IMAGE_FLAGS, IMAGE_REGISTERS, IMAGE_REMAINING};
 
-pub const IMAGE: usize = 34;
-pub const BUS: usize = 65_536;
-pub const STORAGE: usize = 524_288;
 /// The unit of a refusal in an answer.
 pub const REFUSAL: u32 = 16_777_216;
 
@@ -56,11 +55,25 @@ pub trait Machine {
     }
 }
 
+/// The number that a field holds, low byte first.
+pub fn number(field: &[u8]) -> usize {
+    field.iter().rev().fold(0, |number, byte| 256 * number + usize::from(*byte))
+}
+
+/// Lays a number down in a field; what has no room there is left out.
+pub fn set_number(field: &mut [u8], number: u32) {
+    field.copy_from_slice(&number.to_le_bytes()[..field.len()]);
+}
+
+/// The place of a register, by its index.
+pub fn register(index: u16) -> usize {
+    IMAGE_REGISTERS + usize::from(index)
+}
+
 /// Where an image's transfer points: a bus address and a storage offset. Without a transfer both are 0.
 pub fn places(image: &Image) -> (usize, usize) {
-    let c64 = usize::from(image[24]) + 256 * usize::from(image[25]);
-    let logical = usize::from(image[26]) + 256 * usize::from(image[27]) + 65_536 * usize::from(image[28]);
-    (c64, logical % STORAGE)
+    let logical = number(&image[IMAGE_EXPANSION_ADDRESS..IMAGE_REMAINING]);
+    (number(&image[IMAGE_C64_ADDRESS..IMAGE_EXPANSION_ADDRESS]), logical % STORAGE)
 }
 
 const GUARD: usize = 64;
@@ -129,7 +142,7 @@ impl<P: Port> Machine for Held<P> {
     }
 
     fn interrupt(&self) -> bool {
-        self.image.get()[18] & 2 != 0
+        self.image.get()[IMAGE_FLAGS] & FLAG_INTERRUPT != 0
     }
 
     fn bus(&self) -> &[u8] {

@@ -6,7 +6,7 @@ use compare::generate::Generator;
 use compare::port::Library;
 use compare::record::replay;
 use compare::refusals::{Refusals, Refuser};
-use compare::sides::{Held, IMAGE, Lent, Port};
+use compare::sides::{Held, IMAGE, Lent, Port, STORAGE};
 use compare::{SEED, demand3};
 use std::cell::RefCell;
 use std::io::{BufRead, BufReader};
@@ -100,7 +100,7 @@ fn a_record_with_another_answer_is_noticed() {
 #[test]
 fn a_list_reads_as_it_was_written() {
     let mut generator = Generator::new(SEED);
-    let mut steps = vec![Step::Memory(u64::MAX), Step::Storage(524_287, 255)];
+    let mut steps = vec![Step::Memory(u64::MAX), Step::Storage(STORAGE as u32 - 1, 255)];
     for at in 0..10_000 {
         let image = generator.image();
         steps.push(if at % 50 == 0 { Step::Image(image) } else { generator.anything(&image) });

@@ -1,5 +1,6 @@
-/// The length of an image.
-pub const IMAGE_BYTES: usize = 34;
+// Places and the length of an image are the Rust crate's, by name, and a field reaches up to the next place; which field
+// stands where is said here. (Without the colons before it, `reu` is a module of the original.)
+use ::reu::*;
 
 fn bits(flags: &[bool]) -> u8 {
     flags.iter().rev().fold(0, |byte, flag| byte * 2 + u8::from(*flag))
@@ -20,51 +21,56 @@ fn get(field: &[u8]) -> usize {
     field.iter().rev().fold(0, |number, byte| number * 256 + usize::from(*byte))
 }
 
+/// Whether an image has its storage attached.
+pub fn attached(image: &[u8; IMAGE_SIZE]) -> bool {
+    image[IMAGE_FLAGS] & FLAG_ATTACHED != 0
+}
+
 impl DmaState {
-    /// Bytes 22 to 33 of the image.
-    fn pack(&self, image: &mut [u8; IMAGE_BYTES]) {
-        image[22] = match self.transfer_type {
+    /// The bytes of a running transfer.
+    fn pack(&self, image: &mut [u8; IMAGE_SIZE]) {
+        image[IMAGE_TYPE] = match self.transfer_type {
             TransferType::Store => 0,
             TransferType::Recall => 1,
             TransferType::Swap => 2,
             TransferType::Verify => 3,
         };
-        image[23] = u8::from(self.swap_phase == SwapPhase::WriteC64);
-        put(&mut image[24..26], usize::from(self.c64_addr));
-        put(&mut image[26..29], self.reu_addr);
-        put(&mut image[29..32], self.remaining);
-        image[32] = self.latch;
-        image[33] =
+        image[IMAGE_PHASE] = u8::from(self.swap_phase == SwapPhase::WriteC64);
+        put(&mut image[IMAGE_C64_ADDRESS..IMAGE_EXPANSION_ADDRESS], usize::from(self.c64_addr));
+        put(&mut image[IMAGE_EXPANSION_ADDRESS..IMAGE_REMAINING], self.reu_addr);
+        put(&mut image[IMAGE_REMAINING..IMAGE_LATCH], self.remaining);
+        image[IMAGE_LATCH] = self.latch;
+        image[IMAGE_TRANSFER_FLAGS] =
             bits(&[self.fix_c64, self.fix_reu, self.autoload, self.first_byte, self.read_clock_odd, self.verify_tail]);
     }
 
-    fn open(image: &[u8; IMAGE_BYTES]) -> Self {
+    fn open(image: &[u8; IMAGE_SIZE]) -> Self {
         Self {
-            transfer_type: TransferType::from_command(image[22]),
-            swap_phase: if image[23] == 0 { SwapPhase::ReadC64 } else { SwapPhase::WriteC64 },
-            c64_addr: get(&image[24..26]) as u16,
-            reu_addr: get(&image[26..29]),
-            remaining: get(&image[29..32]),
-            latch: image[32],
-            fix_c64: bit(image[33], 0),
-            fix_reu: bit(image[33], 1),
-            autoload: bit(image[33], 2),
-            first_byte: bit(image[33], 3),
-            read_clock_odd: bit(image[33], 4),
-            verify_tail: bit(image[33], 5),
+            transfer_type: TransferType::from_command(image[IMAGE_TYPE]),
+            swap_phase: if image[IMAGE_PHASE] == 0 { SwapPhase::ReadC64 } else { SwapPhase::WriteC64 },
+            c64_addr: get(&image[IMAGE_C64_ADDRESS..IMAGE_EXPANSION_ADDRESS]) as u16,
+            reu_addr: get(&image[IMAGE_EXPANSION_ADDRESS..IMAGE_REMAINING]),
+            remaining: get(&image[IMAGE_REMAINING..IMAGE_LATCH]),
+            latch: image[IMAGE_LATCH],
+            fix_c64: bit(image[IMAGE_TRANSFER_FLAGS], 0),
+            fix_reu: bit(image[IMAGE_TRANSFER_FLAGS], 1),
+            autoload: bit(image[IMAGE_TRANSFER_FLAGS], 2),
+            first_byte: bit(image[IMAGE_TRANSFER_FLAGS], 3),
+            read_clock_odd: bit(image[IMAGE_TRANSFER_FLAGS], 4),
+            verify_tail: bit(image[IMAGE_TRANSFER_FLAGS], 5),
         }
     }
 }
 
 impl Reu {
     /// The controller as document 01's image record lays it down.
-    pub fn image(&self) -> [u8; IMAGE_BYTES] {
-        let mut image = [0; IMAGE_BYTES];
-        image[..REGISTER_COUNT].copy_from_slice(&self.regs);
-        put(&mut image[11..13], usize::from(self.shadow_c64_addr));
-        put(&mut image[13..16], self.shadow_reu_addr);
-        put(&mut image[16..18], self.shadow_len);
-        image[18] = bits(&[
+    pub fn image(&self) -> [u8; IMAGE_SIZE] {
+        let mut image = [0; IMAGE_SIZE];
+        image[IMAGE_REGISTERS..IMAGE_SHADOW_C64].copy_from_slice(&self.regs);
+        put(&mut image[IMAGE_SHADOW_C64..IMAGE_SHADOW_EXPANSION], usize::from(self.shadow_c64_addr));
+        put(&mut image[IMAGE_SHADOW_EXPANSION..IMAGE_SHADOW_LENGTH], self.shadow_reu_addr);
+        put(&mut image[IMAGE_SHADOW_LENGTH..IMAGE_FLAGS], self.shadow_len);
+        image[IMAGE_FLAGS] = bits(&[
             self.enabled,
             self.irq_pending,
             self.storage.is_some(),
@@ -74,36 +80,36 @@ impl Reu {
             self.terminal_swap_write,
             self.late_ba_fall,
         ]);
-        image[19] = bits(&[self.swap_refresh, self.swap_release_pending]);
-        image[20] = self.swap_read_delay;
-        image[21] = u8::from(self.dma.is_some());
+        image[IMAGE_MORE_FLAGS] = bits(&[self.swap_refresh, self.swap_release_pending]);
+        image[IMAGE_DELAY] = self.swap_read_delay;
+        image[IMAGE_TRANSFER] = u8::from(self.dma.is_some());
         if let Some(dma) = &self.dma {
             dma.pack(&mut image);
         }
         image
     }
 
-    /// Sets every field from an accepted image; `storage` goes into the slot that byte 18 says it is in.
-    pub(crate) fn open(image: &[u8; IMAGE_BYTES], storage: Option<ReuMemory>) -> Self {
+    /// Sets every field from an accepted image; `storage` goes into the slot that [`attached`] says it is in.
+    pub(crate) fn open(image: &[u8; IMAGE_SIZE], storage: Option<ReuMemory>) -> Self {
         let mut regs = [0; REGISTER_COUNT];
-        regs.copy_from_slice(&image[..REGISTER_COUNT]);
+        regs.copy_from_slice(&image[IMAGE_REGISTERS..IMAGE_SHADOW_C64]);
         Self {
             regs,
-            shadow_c64_addr: get(&image[11..13]) as u16,
-            shadow_reu_addr: get(&image[13..16]),
-            shadow_len: get(&image[16..18]),
-            enabled: bit(image[18], 0),
-            irq_pending: bit(image[18], 1),
+            shadow_c64_addr: get(&image[IMAGE_SHADOW_C64..IMAGE_SHADOW_EXPANSION]) as u16,
+            shadow_reu_addr: get(&image[IMAGE_SHADOW_EXPANSION..IMAGE_SHADOW_LENGTH]),
+            shadow_len: get(&image[IMAGE_SHADOW_LENGTH..IMAGE_FLAGS]),
+            enabled: bit(image[IMAGE_FLAGS], 0),
+            irq_pending: bit(image[IMAGE_FLAGS], 1),
             storage,
-            waiting_ff00: bit(image[18], 3),
-            ba_was_high: bit(image[18], 4),
-            recall_repeat: bit(image[18], 5),
-            terminal_swap_write: bit(image[18], 6),
-            late_ba_fall: bit(image[18], 7),
-            swap_refresh: bit(image[19], 0),
-            swap_release_pending: bit(image[19], 1),
-            swap_read_delay: image[20],
-            dma: (image[21] != 0).then(|| DmaState::open(image)),
+            waiting_ff00: bit(image[IMAGE_FLAGS], 3),
+            ba_was_high: bit(image[IMAGE_FLAGS], 4),
+            recall_repeat: bit(image[IMAGE_FLAGS], 5),
+            terminal_swap_write: bit(image[IMAGE_FLAGS], 6),
+            late_ba_fall: bit(image[IMAGE_FLAGS], 7),
+            swap_refresh: bit(image[IMAGE_MORE_FLAGS], 0),
+            swap_release_pending: bit(image[IMAGE_MORE_FLAGS], 1),
+            swap_read_delay: image[IMAGE_DELAY],
+            dma: (image[IMAGE_TRANSFER] != 0).then(|| DmaState::open(image)),
         }
     }
 

@@ -1,8 +1,9 @@
-use crate::memory::memory::{BUS_BYTES, Memory};
+use crate::memory::memory::Memory;
 use crate::reu::memory::{REU_1764_CAPACITY_BYTES, ReuMemory};
-use crate::reu::reu::IMAGE_BYTES;
+use crate::reu::reu::attached;
 use crate::reu::{Reu, ReuBusAction, ReuC64Access};
 use crate::vic::VicII;
+use ::reu::{BUS_SIZE, IMAGE_SIZE};
 
 /// The original with a bus and a storage of its own. Each call answers document 01's value for it; flags are as in
 /// the exported calls: 0 is false.
@@ -15,13 +16,13 @@ pub struct Machine {
 impl Default for Machine {
     fn default() -> Self {
         let storage = vec![0; REU_1764_CAPACITY_BYTES].into_boxed_slice();
-        Self::over(Box::new([0; BUS_BYTES]), storage)
+        Self::over(Box::new([0; BUS_SIZE]), storage)
     }
 }
 
 impl Machine {
     /// A new controller over these memories.
-    pub fn over(bus: Box<[u8; BUS_BYTES]>, storage: Box<[u8]>) -> Self {
+    pub fn over(bus: Box<[u8; BUS_SIZE]>, storage: Box<[u8]>) -> Self {
         let memory = Memory { bus, reu: Reu::new() };
         Self { memory, detached: Some(ReuMemory::over(storage)) }
     }
@@ -48,15 +49,14 @@ impl Machine {
         self.memory.reu.irq_pending
     }
 
-    pub fn image(&self) -> [u8; IMAGE_BYTES] {
+    pub fn image(&self) -> [u8; IMAGE_SIZE] {
         self.memory.reu.image()
     }
 
     /// Sets the controller from an accepted image; bus and storage keep their bytes.
-    pub fn load(&mut self, image: &[u8; IMAGE_BYTES]) {
+    pub fn load(&mut self, image: &[u8; IMAGE_SIZE]) {
         self.detach();
-        let attached = image[18] & 4 != 0;
-        let storage = if attached { self.detached.take() } else { None };
+        let storage = if attached(image) { self.detached.take() } else { None };
         self.memory.reu = Reu::open(image, storage);
     }
 

@@ -1,11 +1,10 @@
 use crate::reu::{Reu, ReuBusAction};
 use crate::vic::VicII;
-
-pub const BUS_BYTES: usize = 65_536;
+use ::reu::BUS_SIZE;
 
 /// The C64's side: plain bytes, and the controller beside them.
 pub struct Memory {
-    pub bus: Box<[u8; BUS_BYTES]>,
+    pub bus: Box<[u8; BUS_SIZE]>,
     pub reu: Reu,
 }
 
