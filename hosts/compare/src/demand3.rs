@@ -7,10 +7,7 @@ use crate::refusals::Refuser;
 use crate::rng::{Rng, noise};
 use crate::sessions::grant;
 use crate::sides::{BUS, Image, Machine, STORAGE, register};
-use reu::{
-    ADDRESS_CONTROL, COMMAND, COMMAND_EXECUTE, FLAG_ARMED, FLAG_ATTACHED, IMAGE_FLAGS, IMAGE_TRANSFER,
-    TRANSFER_LENGTH_HIGH, TRANSFER_LENGTH_LOW,
-};
+use reu::*;
 
 /// One machine on its way through a list, with the bytes that both runs begin with.
 struct Walk<'a> {
@@ -89,13 +86,18 @@ impl Walk<'_> {
         self.machine.call(call) as u8
     }
 
+    /// Whether COMMAND still says that its transfer runs.
+    fn executes(&self) -> bool {
+        self.machine.image()[register(COMMAND)] & COMMAND_EXECUTE != 0
+    }
+
     /// Starts a swap and cycles to its end, which must come exactly when 2n cycles are granted.
     fn swap(&mut self, length: usize) -> Result<(), String> {
         let command = 0x92 | (self.rng.byte() & 0x6C);
         self.write(1, command);
         let (mut granted, mut cycles) = (0, 0);
         while granted < 2 * length {
-            check(self.machine.image()[register(COMMAND)] & COMMAND_EXECUTE != 0, "the swap ended too early")?;
+            check(self.executes(), "the swap ended too early")?;
             cycles += 1;
             check(cycles <= 4 * length + 16, "the swap is not granted its cycles")?;
             if self.rng.one_in(64) {
@@ -107,10 +109,7 @@ impl Walk<'_> {
             }
             check(self.machine.call(cycle) == 1, "a cycle of the swap was the processor's")?;
         }
-        check(
-            self.machine.image()[register(COMMAND)] & COMMAND_EXECUTE == 0,
-            "the swap did not end at 2n granted cycles",
-        )
+        check(!self.executes(), "the swap did not end at 2n granted cycles")
     }
 
     fn memories_are(&self, bus: &[u8], storage: &[u8]) -> bool {
