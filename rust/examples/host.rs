@@ -55,11 +55,12 @@ fn swap(host: &mut Host) {
     host.machine.bus_mut()[0x2000..0x2005].copy_from_slice(b"WORLD");
     host.machine.write(0xDF00 + INTERRUPT_MASK, INTERRUPT_GLOBAL_ENABLE | INTERRUPT_END_OF_BLOCK_ENABLE);
     host.command(0x2000, 0x01_0000, 5, SWAP | COMMAND_AUTOLOAD | AT_ONCE);
-    let addresses = host.machine.registers()[2..9].to_vec();
+    let counters = usize::from(C64_ADDRESS_LOW)..=usize::from(TRANSFER_LENGTH_HIGH);
+    let written = host.machine.registers()[counters.clone()].to_vec();
     assert_eq!(host.run_to_end(), 10);
     assert_eq!(&host.machine.bus()[0x2000..0x2005], b"HELLO");
     assert_eq!(&host.machine.storage()[0x01_0000..0x01_0005], b"WORLD");
-    assert_eq!(host.machine.registers()[2..9], addresses);
+    assert_eq!(host.machine.registers()[counters], written);
     assert!(host.machine.interrupt_level());
     println!("swap: 10 cycles, HELLO and WORLD have changed places, Autoload has restored the registers");
 }
