@@ -1,91 +1,106 @@
--- The monitor's cycle is the library's: what it leaves in the image, the bus and the storage is what `reu_run_reu_cycle` leaves there.
-use mathlib.Core.Path.{_≡_, refl, sym, ap, _∙_, subst}
-use mathlib.Core.Bool.{Bool, true, false}
+-- The monitor asks for a grant, on a copy of the image, before the cycle. That changes nothing of what the cycle then leaves and answers.
+use mathlib.Core.Path.{_≡_, refl, sym, ap, _∙_}
+use mathlib.Core.Bool.{Bool, true, false, cond}
 use mathlib.Core.List.{List}
-use Prim.Native.Nat.{ℕ, _/_, _%_}
+use Prim.Native.Nat.{ℕ, _≤_}
 use native.Mathlib.Omega.{arith}
 use lib.Dec.{eqb}
-use lib.ListN.{length}
-use borrow.Author.Tests.{eqb-true, eqb-false, ne-eqb}
-use Rattle.controller.specs.Bytes.{bit, bitOf}
+use lib.ListN.{length, replicate}
+use borrow.Author.Tests.{eqb-false, le-ltb, ne-eqb}
+use Rattle.controller.specs.declared.reu.Answer.{Answer}
 use Rattle.controller.specs.declared.reu.Reu.{Reu}
-use Rattle.controller.specs.declared.timing.ReuBusAction.{ReuBusAction}
-use Rattle.controller.specs.declared.timing.ReuBusAction.the-variants.{Cpu, Hold, Transfer}
 use Rattle.controller.specs.BusAction.{Granted, busAction}
-use Rattle.controller.specs.Calls.{actionNumber, busActionCall, cycleCall}
+use Rattle.controller.specs.Calls.{busActionCall, cycleCall, grantedAnswer, refused, tickedAnswer}
 use Rattle.controller.specs.Constants.{busSize, storageSize}
-use Rattle.controller.specs.Cycle.{cycleBy as byAction, runReuCycle}
-use Rattle.controller.specs.TickDma.{Ticked}
-use Rattle.image.specs.Layout.{packImage, reuAt}
-use Rattle.image.specs.Open.{openImage}
-use Rattle.image.specs.Valid.{Bytes}
-use Rattle.reu.specs.Exports.{flag, refusal, reuBusAction, reuCycle}
-use Rattle.reu.proofs.Families.{storage-refused, both-refused}
-use Rattle.claims.proofs.Accepted.{bus-action-is, tick-is, cycle-is}
-use Rattle.image.proofs.Sound.{Sound, SoundPair, sound-grant}
-use Rattle.image.proofs.Valid.{open-sound, pack-back}
-use Rattle.console.specs.Step.{cycleBy, cycleOf}
+use Rattle.controller.specs.Cycle.{cycleBy, runReuCycle}
+use Rattle.controller.specs.Refusals.{checked, refusalOf, wellFormed}
+use Rattle.image.specs.Open.{bytesOk, imageOk, openImage}
+use Rattle.reu.specs.Exports.{changeBoth, changeStorage, changedBoth, changedStorage, code, flag, refusal, refusalUnit, reuBusAction, reuCycle}
+use Rattle.pane.specs.Answers.{accepted}
+use Rattle.pane.specs.Rows.{copyOf}
+use Rattle.console.proofs.Asked.{Again, asked-again}
 
--- the image, the bus and the storage, whatever was answered
-abbrev pub left : {A : Type 0} → (A × List ℕ × List ℕ × List ℕ) → (List ℕ × List ℕ × List ℕ)
-left x = (x .1, x .2, x .3)
+module _ (m : List ℕ) (hm : length m ≡ busSize) (s : List ℕ) (high number low phi1 : ℕ) where
+  -- on the controller, which may be refused, and then nothing is written
+  module _ (u : Reu) where
+    abbrev g : Granted
+    g = busAction u s (flag high) (flag phi1) number
 
-module _ (m s : List ℕ) (hm : length m ≡ busSize) (hs : length s ≡ storageSize) (bytes : Bytes s) (inputs number : ℕ) where
-  -- what the monitor leaves, and what the library does
-  abbrev pub monitors : List ℕ → (List ℕ × List ℕ × List ℕ)
-  monitors i = left (cycleOf inputs number i m s)
+    abbrev call : List ℕ → (Answer × List ℕ × List ℕ)
+    call t = cycleCall u m t (flag high) (flag phi1) number (flag low)
 
-  abbrev pub librarys : List ℕ → (List ℕ × List ℕ × List ℕ)
-  librarys i = left (reuCycle i m s (bitOf (bit inputs 2)) number (bitOf (bit inputs 0)) (bitOf (bit inputs 1)))
+    again : Again (λ t. busAction u t (flag high) (flag phi1) number) s
+    again = asked-again u s (flag high) (flag phi1) number
 
-  abbrev after : (ℕ × List ℕ × List ℕ) → (List ℕ × List ℕ × List ℕ)
-  after g = left (cycleBy inputs number m g)
+    abbrev k : ℕ
+    k = refusalOf u busSize (length s)
 
-  abbrev packed : Ticked → (List ℕ × List ℕ × List ℕ)
-  packed t = (packImage (t .0 .reu), t .1, t .2)
+    abbrev ran : List ℕ → (Answer × List ℕ × List ℕ)
+    ran t = tickedAnswer (runReuCycle u m t (flag high) (flag phi1) number (flag low))
 
-  -- after the grant: w is the controller, t the storage
-  granted : (a : ReuBusAction) (w : Reu) (t : List ℕ) → Sound w → length t ≡ storageSize
-      → after (actionNumber a, packImage w, t) ≡ packed (byAction a w m t number (flag (bitOf (bit inputs 0))))
-  unfolding cycleBy byAction
-  granted Cpu w t sound size = refl
-  granted Hold w t sound size = refl
-  granted Transfer w t sound size = ap left (tick-is w sound t size m hm number (bitOf (bit inputs 0)))
+    taken : (t : List ℕ) → length t ≡ length s → eqb k 0 ≡ true → call t ≡ ran t
+    unfolding cycleCall checked
+    taken t l e =
+        let none : eqb (refusalOf u (length m) (length t)) 0 ≡ true = (λ j. eqb (refusalOf u (hm j) (l j)) 0) ∙ e in
+        λ j. cond (none j) (ran t) (refused u (refusalOf u (length m) (length t)), m, t)
 
-  -- on the image of a sound controller
-  sound-cycle : (u : Reu) → Sound u → monitors (packImage u) ≡ librarys (packImage u)
-  unfolding runReuCycle
-  sound-cycle u sound =
-      let high = bitOf (bit inputs 2) in
-      let phi1 = bitOf (bit inputs 1) in
-      let g : Granted = busAction u s (flag high) (flag phi1) number in
-      let then : SoundPair storageSize (g .0 .reu) (g .1) =
-      sound-grant storageSize u s (flag high) (flag phi1) number (record { sound = sound; bytes = bytes; size = hs }) in
-      ap after (bus-action-is u sound s hs high phi1 number)
-      ∙ granted (g .0 .action) (g .0 .reu) (g .1) (then .sound) (then .size)
-      ∙ sym (ap left (cycle-is u sound s hs m hm high number (bitOf (bit inputs 0)) phi1))
+    granted : (b : Bool) → eqb k 0 ≡ b → call (cond b (grantedAnswer g) (refused u k, s) .1) ≡ call s
+    unfolding runReuCycle
+    granted false e = refl
+    granted true e =
+        taken (g .1) (again .long) e
+        ∙ ap (λ (x : Granted). tickedAnswer (cycleBy (x .0 .action) (x .0 .reu) m (x .1) number (flag low))) (again .same)
+        ∙ sym (taken s refl e)
 
-  -- an image that is refused is left as it is, and so are bus and storage
-  refused : (i : List ℕ) → (openImage i .refusal ≡ 0 → ⊥) → monitors i ≡ librarys i
-  unfolding cycleBy
-  refused i bad =
-      let high = flag (bitOf (bit inputs 2)) in
-      let phi1 = flag (bitOf (bit inputs 1)) in
-      let low = flag (bitOf (bit inputs 0)) in
-      let n = refusal (openImage i .refusal) in
-      let grant = storage-refused i (openImage i) refl bad n refl s (λ u t. busActionCall u t high phi1 number) in
-      let cycle = both-refused i (openImage i) refl bad n refl m s (λ u b t. cycleCall u b t high phi1 number low) in
-      let other : n ≡ 2 → ⊥ = λ e. omega arith in
-      let kept : after (n, i, s) ≡ (i, m, s) = rw (ne-eqb n 2 other) in
-      sym (ap after grant) ∙ kept ∙ ap left cycle
+    called : call (busActionCall u s (flag high) (flag phi1) number .1) ≡ call s
+    unfolding busActionCall checked
+    called = granted (eqb k 0) refl
 
-  -- on every image, whether it opens or is refused
-  pub same-cycle : (i : List ℕ) → Bytes i → monitors i ≡ librarys i
-  same-cycle i whole = go (eqb (openImage i .refusal) 0) refl
-    where
-      go : (b : Bool) → eqb (openImage i .refusal) 0 ≡ b → monitors i ≡ librarys i
-      go true e =
-          let z = eqb-true _ _ e in
-          subst (λ (j : List ℕ). monitors j ≡ librarys j) (pack-back i whole z)
-          (sound-cycle (reuAt i) (open-sound i whole z))
-      go false e = refused i (eqb-false _ _ e)
+  -- on an image, and on a copy of it
+  module _ (i : List ℕ) where
+    abbrev cycle : List ℕ → (ℕ × List ℕ × List ℕ × List ℕ)
+    cycle t = reuCycle i m t high number low phi1
+
+    abbrev n : ℕ
+    n = openImage i .refusal
+
+    abbrev u : Reu
+    u = openImage i .reu
+
+    opened : (t : List ℕ) → eqb n 0 ≡ true → cycle t ≡ changedBoth (call u t) i
+    unfolding changeBoth checked
+    opened t e = λ j. cond (e j) (changedBoth (call u t) i) (refusal n, i, m, t)
+
+    by-image : (b : Bool) → eqb n 0 ≡ b
+        → cycle (cond b (changedStorage (busActionCall u s (flag high) (flag phi1) number) i) (refusal n, i, s) .2) ≡ cycle s
+    by-image false e = refl
+    by-image true e = opened _ e ∙ ap (λ (x : Answer × List ℕ × List ℕ). changedBoth x i) (called u) ∙ sym (opened s e)
+
+    by-copy : (b : Bool) → cycle (reuBusAction (cond b i (replicate 34 255)) s high phi1 number .2) ≡ cycle s
+    unfolding changeStorage checked openImage imageOk bytesOk
+    by-copy true = by-image (eqb n 0) refl
+    by-copy false = refl
+
+    pub asking-changes-nothing : cycle (reuBusAction (copyOf i) s high phi1 number .2) ≡ cycle s
+    asking-changes-nothing = by-copy (eqb (length i) 34)
+
+-- a bus of another length: the cycle is refused
+module _ (m : List ℕ) (other : length m ≡ busSize → ⊥) (i s : List ℕ) (high number low phi1 : ℕ) where
+  abbrev v : Reu
+  v = openImage i .reu
+
+  by-value : (b : Bool) → wellFormed v ≡ b → accepted (code (cycleCall v m s (flag high) (flag phi1) number (flag low) .0)) ≡ false
+  unfolding cycleCall checked refusalOf code
+  by-value true e = rw (e, ne-eqb (length m) busSize other)
+  by-value false e = rw e
+
+  by-opening : (b : Bool) → eqb (openImage i .refusal) 0 ≡ b → accepted (reuCycle i m s high number low phi1 .0) ≡ false
+  unfolding changeBoth checked
+  by-opening true e = rw e (by-value (wellFormed v) refl)
+  by-opening false e =
+      let bad = eqb-false (openImage i .refusal) 0 e in
+      let large : refusalUnit ≤ refusal (openImage i .refusal) = omega arith in
+      rw (e, le-ltb (refusal (openImage i .refusal)) refusalUnit large)
+
+  pub other-bus : accepted (reuCycle i m s high number low phi1 .0) ≡ false
+  other-bus = by-opening (eqb (openImage i .refusal) 0) refl

@@ -1,17 +1,20 @@
 -- A cycle, a cycle more, and a run of them: what the calls answered and left put together.
 use mathlib.Core.Path.{_≡_, refl, sym, ap, _∙_}
-use mathlib.Core.Bool.{Bool, true, false}
+use mathlib.Core.Bool.{Bool, true, false, cond, false≢true}
 use mathlib.Core.List.{List, []}
 use Prim.Native.Nat.{ℕ, zero, suc, _-_, _/_, _%_, _≤_, _<_}
 use native.Mathlib.Omega.{arith}
-use borrow.Author.Tests.{eq-eqb, ne-eqb}
+use lib.Dec.{eqb}
+use lib.ListN.{length}
+use borrow.Author.Tests.{eq-eqb, eqb-false, eqb-true, ne-eqb}
 use Rattle.controller.specs.Calls.{dmaActiveCall}
+use Rattle.controller.specs.Constants.{busSize}
 use Rattle.image.specs.Open.{openImage}
 use Rattle.reu.proofs.Families.{look-refused}
-use Rattle.reu.specs.Exports.{refusal, refusalUnit, reuBusAction, reuC64Access, reuDmaActive, reuTickDma}
+use Rattle.reu.specs.Exports.{refusal, refusalUnit, reuBusAction, reuC64Access, reuCycle, reuDmaActive}
 use Rattle.pane.proofs.Cuts.{then}
 use Rattle.pane.specs.Answers.{accepted}
-use Rattle.pane.specs.Rows.{longAt}
+use Rattle.pane.specs.Rows.{copyOf, longAt}
 use Rattle.pane.specs.Shown.{_⊕_, decimalOf}
 use Rattle.controller.specs.Bytes.{bit, bitOf}
 use Rattle.controller.proofs.Bits.{bit-digit, low-digit}
@@ -19,37 +22,73 @@ use Rattle.console.specs.declared.clock.Clock.{Clock}
 use Rattle.console.specs.declared.step.Cycle.{Cycle}
 use Rattle.console.specs.declared.step.Run.{Run}
 use Rattle.console.specs.Clock.{inputsOf, letterOf}
-use Rattle.console.specs.Step.{Running, accessText, advanced, baText, bytesThere, counted, cycleBy, cycleLine, cycleOf, goOf, grantText}
+use Rattle.console.specs.Step.{Running, accessText, advanced, askedOf, baText, bytesThere, counted, cycleLine, cycleOf, goOf, grantText, refusedCycle}
+use Rattle.console.proofs.Cycles.{asking-changes-nothing, other-bus}
 
--- a cycle, from the grant and what it left, the access and the offset
-module _ (inputs number : ℕ) (i m s : List ℕ) (grant : ℕ) (j t : List ℕ)
-    (g : (grant, j, t) ≡ reuBusAction i s (inputs / 4 % 2) (inputs / 2 % 2) number)
-    (access at : ℕ) (a : access ≡ reuC64Access j) (o : at ≡ longAt j 26) where
-  abbrev done : Cycle
-  done = record { grant = grant; access = access % refusalUnit; offset = at % 524288 }
+-- the grant that is asked for, with the access and the offset; the inputs are bits, which the code takes as digits
+module _ (inputs number : ℕ) (i s : List ℕ) where
+  pub not-asked : {lent : ℕ} {x : Cycle} → (lent ≡ busSize → ⊥) → x ≡ refusedCycle 0
+      → (x, s) ≡ cond (eqb lent busSize) (askedOf inputs number i s) (refusedCycle 0, s)
+  not-asked {lent} h e = rw (ne-eqb lent busSize h) (λ j. (e j, s))
 
-  -- the inputs are bits, which the code takes as digits
-  asked : (grant, j, t) ≡ reuBusAction i s (bitOf (bit inputs 2)) (bitOf (bit inputs 1)) number
-  asked = g ∙ sym (λ x. reuBusAction i s (bit-digit inputs 2 x) (bit-digit inputs 1 x) number)
+  pub asked : {lent : ℕ} {copy j t : List ℕ} {grant access at : ℕ} → lent ≡ busSize → copy ≡ copyOf i
+      → (grant, j, t) ≡ reuBusAction copy s (inputs / 4 % 2) (inputs / 2 % 2) number → access ≡ reuC64Access j → at ≡ longAt j 26
+      → (record { grant = grant; access = access % refusalUnit; offset = at % 524288 }, t)
+      ≡ cond (eqb lent busSize) (askedOf inputs number i s) (refusedCycle 0, s)
+  unfolding askedOf
+  asked {lent} {t = t} {grant = grant} h c g a o =
+      let same = g ∙ (λ x. reuBusAction (c x) s (sym (bit-digit inputs 2) x) (sym (bit-digit inputs 1) x) number) in
+      rw (eq-eqb lent busSize h)
+      ((λ x. (record { grant = grant; access = a x % refusalUnit; offset = o x % 524288 }, t))
+      ∙ ap
+      (λ (y : ℕ × List ℕ × List ℕ). (record { grant = y .0; access = reuC64Access (y .1) % refusalUnit; offset = longAt (y .1) 26 % 524288 }, y .2))
+      same)
 
-  -- on Transfer the tick leaves what is left
-  pub ticked : (k : ℕ × List ℕ × List ℕ × List ℕ) → grant ≡ 2 → k ≡ reuTickDma j m t number (inputs % 2)
-      → (done, k .1, k .2, k .3) ≡ cycleOf inputs number i m s
-  unfolding cycleBy
-  ticked k h p =
-      let q : k ≡ reuTickDma j m t number (bitOf (bit inputs 0)) = p ∙ sym (ap (reuTickDma j m t number) (low-digit inputs)) in
-      let by : (done, k .1, k .2, k .3) ≡ cycleBy inputs number m (grant, j, t) =
-      rw (eq-eqb grant 2 h)
-      (λ x. (record { grant = grant; access = a x % refusalUnit; offset = o x % 524288 }, q x .1, q x .2, q x .3)) in
-      by ∙ ap (cycleBy inputs number m) asked
+-- a cycle, from what was asked before it and what it answered and left
+module _ (inputs number : ℕ) (i m s : List ℕ) (x : Cycle) (t : List ℕ)
+    (a : (x, t) ≡ cond (eqb (length m) busSize) (askedOf inputs number i s) (refusedCycle 0, s))
+    (k : ℕ × List ℕ × List ℕ × List ℕ) (c : k ≡ reuCycle i m t (inputs / 4 % 2) number (inputs % 2) (inputs / 2 % 2)) where
+  abbrev input : ℕ → ℕ
+  input n = bitOf (bit inputs n)
 
-  -- on any other grant that is all
-  pub granted : (grant ≡ 2 → ⊥) → (done, j, m, t) ≡ cycleOf inputs number i m s
-  unfolding cycleBy
-  granted h =
-      let by : (done, j, m, t) ≡ cycleBy inputs number m (grant, j, t) =
-      rw (ne-eqb grant 2 h) (λ x. (record { grant = grant; access = a x % refusalUnit; offset = o x % 524288 }, j, m, t)) in
-      by ∙ ap (cycleBy inputs number m) asked
+  abbrev cycle : List ℕ → (ℕ × List ℕ × List ℕ × List ℕ)
+  cycle l = reuCycle i m l (input 2) number (input 0) (input 1)
+
+  bits : k ≡ cycle t
+  bits = c ∙ sym (λ j. reuCycle i m t (bit-digit inputs 2 j) number (low-digit inputs j) (bit-digit inputs 1 j))
+
+  -- as if nothing had been asked; and a cycle that is accepted had a bus of the right length, so that it was asked
+  both : (b : Bool) → eqb (length m) busSize ≡ b → (x, t) ≡ cond b (askedOf inputs number i s) (refusedCycle 0, s)
+      → (k ≡ cycle s) × (accepted (cycle s .0) ≡ true → x ≡ askedOf inputs number i s .0)
+  unfolding askedOf
+  both true e p = (
+    bits ∙ ap (λ (y : Cycle × List ℕ). cycle (y .1)) p
+        ∙ asking-changes-nothing m (eqb-true _ _ e) s (input 2) number (input 0) (input 1) i,
+    λ h. ap (λ (y : Cycle × List ℕ). y .0) p,
+  )
+  both false e p = (
+    bits ∙ ap (λ (y : Cycle × List ℕ). cycle (y .1)) p,
+    λ h. absurd (false≢true (sym (other-bus m (eqb-false _ _ e) i s (input 2) number (input 0) (input 1)) ∙ h)),
+  )
+
+  same : (k ≡ cycle s) × (accepted (cycle s .0) ≡ true → x ≡ askedOf inputs number i s .0)
+  same = both (eqb (length m) busSize) refl a
+
+  module _ {test : Bool} (e : test ≡ accepted (k .0)) where
+    is : test ≡ accepted (cycle s .0)
+    is = e ∙ ap (λ (y : ℕ × List ℕ × List ℕ × List ℕ). accepted (y .0)) (same .0)
+
+    pub ran : test ≡ true → (x, k .1, k .2, k .3) ≡ cycleOf inputs number i m s
+    unfolding cycleOf
+    ran h =
+        let ok : accepted (cycle s .0) ≡ true = sym is ∙ h in
+        rw ok (λ j. (same .1 ok j, same .0 j .1, same .0 j .2, same .0 j .3))
+
+    pub not-run : {y : Cycle} → test ≡ false → y ≡ refusedCycle (k .0) → (y, k .1, k .2, k .3) ≡ cycleOf inputs number i m s
+    unfolding cycleOf
+    not-run h q =
+        let no : accepted (cycle s .0) ≡ false = sym is ∙ h in
+        rw no ((λ j. (q j, k .1, k .2, k .3)) ∙ (λ j. (refusedCycle (same .0 j .0), same .0 j .1, same .0 j .2, same .0 j .3)))
 
 -- its line, from its parts
 module _ (c : Clock) (done : Cycle) (m s : List ℕ) {none number ba granted : List ℕ} {letter : ℕ} {test : Bool}

@@ -5,29 +5,33 @@ use mathlib.Core.List.{List, [], _∷_}
 use lib.Dec.{eqb}
 use lib.ListN.{getD}
 use Rattle.controller.specs.Bytes.{bit, bitOf}
-use Rattle.reu.specs.Exports.{refusalUnit, reuBusAction, reuC64Access, reuDmaActive, reuTickDma}
+use Rattle.reu.specs.Exports.{refusalUnit, reuBusAction, reuC64Access, reuCycle, reuDmaActive}
 use Rattle.pane.specs.Answers.{accepted, refusedBy}
-use Rattle.pane.specs.Rows.{byteAt, longAt}
+use Rattle.pane.specs.Rows.{byteAt, copyOf, longAt}
 use Rattle.pane.specs.Shown.{_⊕_, ascii, decimalOf, hexOf}
 use Rattle.console.specs.declared.clock.Clock.{Clock}
 use Rattle.console.specs.declared.step.Cycle.{Cycle}
 use Rattle.console.specs.declared.step.Run.{Run}
 use Rattle.console.specs.Clock.{inputsOf, letterOf, nextClock}
 
--- ---- one cycle
+-- ---- one cycle; the inputs are `ba_high`, `ba_high_phi1` and `ba_low` as bits 2, 1 and 0
 
--- after a grant: the access that is ready (a refusal has the value 0, which is none), and the storage's offset (bytes 26 to
--- 28 of the image); on Transfer the tick
-unfoldable pub cycleBy : ℕ → ℕ → List ℕ → (ℕ × List ℕ × List ℕ) → (Cycle × List ℕ × List ℕ × List ℕ)
-cycleBy inputs number m g =
-    let access : ℕ = reuC64Access (g .1) % refusalUnit in
-    let done : Cycle = record { grant = g .0; access = access; offset = longAt (g .1) 26 % 524288 } in
-    let k : (ℕ × List ℕ × List ℕ × List ℕ) = reuTickDma (g .1) m (g .2) number (bitOf (bit inputs 0)) in
-    cond (eqb (g .0) 2) (done, k .1, k .2, k .3) (done, g .1, m, g .2)
+-- that it was refused, by what was answered: no access was made
+abbrev pub refusedCycle : ℕ → Cycle
+refusedCycle answer = record { grant = answer; access = 0; offset = 0 }
 
--- "it asks `bus_action`, ticks on Transfer": the inputs are `ba_high`, `ba_high_phi1` and `ba_low` as bits 2, 1 and 0
-abbrev pub cycleOf : ℕ → ℕ → List ℕ → List ℕ → List ℕ → (Cycle × List ℕ × List ℕ × List ℕ)
-cycleOf inputs number i m s = cycleBy inputs number m (reuBusAction i s (bitOf (bit inputs 2)) (bitOf (bit inputs 1)) number)
+-- "it asks `bus_action`": asked before it of a copy of the image, with the access that is then ready (a refusal has the value 0,
+-- which is none) and the storage's offset (bytes 26 to 28 of the image); and the storage after that
+unfoldable pub askedOf : ℕ → ℕ → List ℕ → List ℕ → (Cycle × List ℕ)
+askedOf inputs number i s =
+    let g : (ℕ × List ℕ × List ℕ) = reuBusAction (copyOf i) s (bitOf (bit inputs 2)) (bitOf (bit inputs 1)) number in
+    (record { grant = g .0; access = reuC64Access (g .1) % refusalUnit; offset = longAt (g .1) 26 % 524288 }, g .2)
+
+-- the library's cycle: what it leaves; shown is what was asked before it, or that it was refused
+unfoldable pub cycleOf : ℕ → ℕ → List ℕ → List ℕ → List ℕ → (Cycle × List ℕ × List ℕ × List ℕ)
+cycleOf inputs number i m s =
+    let k : (ℕ × List ℕ × List ℕ × List ℕ) = reuCycle i m s (bitOf (bit inputs 2)) number (bitOf (bit inputs 0)) (bitOf (bit inputs 1)) in
+    (cond (accepted (k .0)) (askedOf inputs number i s .0) (refusedCycle (k .0)), k .1, k .2, k .3)
 
 -- ---- one cycle, shown
 

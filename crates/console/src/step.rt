@@ -5,12 +5,18 @@ use pane::answers::is_accepted;
 use pane::answers::refusal;
 use pane::line::Line;
 use pane::rows::byte;
+use pane::rows::copied;
 use pane::rows::transfer_expansion;
 ghost use mathlib.Core.Path.{_≡_};
+ghost use mathlib.Core.Bool.{cond};
+ghost use lib.Dec.{eqb};
+ghost use Rattle.controller.specs.Constants.{busSize};
 ghost use Rattle.pane.specs.Shown.{_⊕_, textOf};
-ghost use Rattle.console.specs.Step.{accessText, advanced, baText, bytesThere, counted, cycleLine, cycleOf, goOf, grantText, runLine, started};
+ghost use Rattle.console.specs.Step.{accessText, advanced, askedOf, baText, bytesThere, counted, cycleLine, cycleOf, goOf, grantText, refusedCycle, runLine, started};
 
 const TRANSFER: u32 = 2;
+
+const BUS_SIZE: usize = 65536;
 
 const STORAGE_SIZE: u32 = 524288;
 
@@ -22,7 +28,40 @@ pub struct Cycle {
     pub offset: u32,
 }
 
-// One bus cycle, with BA's three inputs as bits: the grant, and on Transfer its tick.
+// The grant of the cycle that comes next, asked of a copy of the image. What the asking may write, the byte of a swap that is given
+// up, the cycle writes again itself; a cycle that is `lent` a bus of another length is refused and writes nothing, so nothing is
+// asked.
+fn ask(inputs: u8, number: u64, image: &[u8], lent: usize, storage: &mut [u8]) -> Cycle
+    ensures { λ r. ⌜ (r, now (storage .exit)) ≡ cond (eqb lent busSize) (askedOf inputs number (now (image .entry)) (now (storage .entry))) (refusedCycle 0, now (storage .entry)) ⌝ }
+{
+    if lent != BUS_SIZE {
+        return refused(0);
+    }
+    let mut copy = copied(image);
+    let high = (inputs / 4 % 2) as u32;
+    let phi1 = (inputs / 2 % 2) as u32;
+    let grant = reu::reu_bus_action(&mut copy, storage, high, phi1, number);
+    let access = reu::reu_c64_access(&copy) % REFUSAL_UNIT;
+    let offset = transfer_expansion(&copy) % STORAGE_SIZE;
+    Cycle {
+        grant,
+        access,
+        offset,
+    }
+}
+
+// One that was refused made no access.
+fn refused(answer: u32) -> Cycle
+    ensures { λ r. ⌜ r ≡ refusedCycle answer ⌝ }
+{
+    Cycle {
+        grant: answer,
+        access: 0,
+        offset: 0,
+    }
+}
+
+// One bus cycle, with BA's three inputs as bits.
 pub fn run_cycle(
     inputs: u8,
     number: u64,
@@ -32,20 +71,15 @@ pub fn run_cycle(
 ) -> Cycle
     ensures { λ r. ⌜ (r, now (image .exit), now (bus .exit), now (storage .exit)) ≡ cycleOf inputs number (now (image .entry)) (now (bus .entry)) (now (storage .entry)) ⌝ }
 {
+    let asked = ask(inputs, number, image, bus.len(), storage);
     let high = (inputs / 4 % 2) as u32;
     let phi1 = (inputs / 2 % 2) as u32;
     let low = (inputs % 2) as u32;
-    let grant = reu::reu_bus_action(image, storage, high, phi1, number);
-    let access = reu::reu_c64_access(image) % REFUSAL_UNIT;
-    let offset = transfer_expansion(image) % STORAGE_SIZE;
-    if grant == TRANSFER {
-        reu::reu_tick_dma(image, bus, storage, number, low);
+    let answer = reu::reu_run_reu_cycle(image, bus, storage, high, number, low, phi1);
+    if is_accepted(answer) {
+        return asked;
     }
-    Cycle {
-        grant,
-        access,
-        offset,
-    }
+    refused(answer)
 }
 
 // ---- one cycle, shown
