@@ -1,17 +1,16 @@
 -- A word and its place among the names of the commands: a word that has a name's place is that name, and no other word has it.
 use mathlib.Core.Path.{_≡_, refl, sym, _∙_, ap, subst}
 use mathlib.Core.Bool.{Bool, true, false, cond}
-use mathlib.Core.List.{List, [], _∷_}
+use mathlib.Core.List.{List, [], _∷_, _++_, append-nil}
 use Prim.Native.Nat.{ℕ, zero, suc, _+_, _-_, _≤_, _<_}
 use native.Mathlib.Omega.{arith}
-use native.Mathlib.Nat.{add-zero}
+use native.Mathlib.Nat.{add-zero, zero-add}
 use native.Mathlib.Numerals.{add-one}
 use lib.Dec.{eqb}
-use lib.ListN.{length, take, drop, getD, drop-of-length-le}
+use lib.ListN.{length, drop, getD, drop-of-length-le}
 use lib.Seq.{drop-cons}
-use borrow.Author.Tests.{eqb-true, eqb-false}
-use Rattle.pane.specs.Shown.{_⊕_}
-use Rattle.pane.specs.Typed.{same}
+use borrow.Author.Tests.{eq-eqb, eqb-true, eqb-false, ne-eqb}
+use Rattle.pane.specs.Typed.{isBlank, same, wordFrom, wordOf}
 use Rattle.console.specs.Commands.{nameAt, names, placeIn, placeOf}
 
 never : {A : Type 0} → false ≡ true → A
@@ -124,9 +123,83 @@ module _ (w : List ℕ) (i : ℕ) (inv : From w i) where
   ended h =
       sym (inv .1 ∙ ap (λ (vs : List (List ℕ)). i + placeIn vs w) (drop-of-length-le names h) ∙ add-zero i)
 
--- ---- a name as a line
+-- ---- a name as a word of a text
 
-pub spelt :
-    {n k : ℕ} {u v : List ℕ} → n ≡ k → u ≡ [] → v ≡ u ⊕ nameAt k → take 160 (nameAt k) ≡ nameAt k → v ≡ nameAt n
-unfolding _⊕_
-spelt {k = k} e p q fits = q ∙ ap (λ (l : List ℕ). l ⊕ nameAt k) p ∙ fits ∙ ap nameAt (sym e)
+-- some names, and a blank after each
+abbrev pub joined : List (List ℕ) → List ℕ
+joined [] = []
+joined (v ∷ vs) = v ++ (32 ∷ joined vs)
+
+-- no blank is among some characters
+abbrev solid : List ℕ → Bool
+solid [] = true
+solid (b ∷ s) = cond (isBlank b) false (solid s)
+
+-- each of some names is a word
+abbrev words : List (List ℕ) → Bool
+words [] = true
+words ([] ∷ vs) = false
+words ((b ∷ v) ∷ vs) = cond (solid (b ∷ v)) (words vs) false
+
+both : (x a : Bool) → cond x a false ≡ true → (x ≡ true) × (a ≡ true)
+both true a e = (refl, e)
+both false a e = never e
+
+neither : (x a : Bool) → cond x false a ≡ true → (x ≡ false) × (a ≡ true)
+neither true a e = never e
+neither false a e = (refl, e)
+
+module _ (k e : ℕ) (rest : List ℕ) where
+  -- what there is of a word, and of what comes after it
+  abbrev then : List ℕ → List ℕ
+  then v = cond (eqb e k) v [] ++ wordFrom k (e + 1) false rest
+
+  nothing : (x : Bool) (l : List ℕ) → l ≡ cond x [] [] ++ l
+  nothing true l = refl
+  nothing false l = refl
+
+  one-more : (x : Bool) (b : ℕ) (v l : List ℕ) → cond x (b ∷ []) [] ++ (cond x v [] ++ l) ≡ cond x (b ∷ v) [] ++ l
+  one-more true b v l = refl
+  one-more false b v l = refl
+
+  inside : (v : List ℕ) → solid v ≡ true → wordFrom k e true (v ++ (32 ∷ rest)) ≡ then v
+  unfolding wordFrom
+  inside [] h = nothing (eqb e k) _
+  inside (b ∷ v) h =
+      let it = neither (isBlank b) _ h in
+      rw (it .0) (ap (λ (l : List ℕ). cond (eqb e k) (b ∷ []) [] ++ l) (inside v (it .1)) ∙ one-more (eqb e k) b v _)
+
+  from : (b : ℕ) (v : List ℕ) → solid (b ∷ v) ≡ true → wordFrom k e false (b ∷ (v ++ (32 ∷ rest))) ≡ then (b ∷ v)
+  unfolding wordFrom
+  from b v h =
+      let it = neither (isBlank b) _ h in
+      rw (it .0) (ap (λ (l : List ℕ). cond (eqb e k) (b ∷ []) [] ++ l) (inside v (it .1)) ∙ one-more (eqb e k) b v _)
+
+past : (k e : ℕ) (vs : List (List ℕ)) → words vs ≡ true → k < e → wordFrom k e false (joined vs) ≡ []
+unfolding wordFrom
+past k e [] h l = refl
+past k e ([] ∷ vs) h l = never h
+past k e ((b ∷ v) ∷ vs) h l =
+    let it = both (solid (b ∷ v)) _ h in
+    let other : e ≡ k → ⊥ = λ z. omega arith in
+    let further = past k (e + 1) vs (it .1) (omega arith) in
+    from k e (joined vs) b v (it .0) ∙ (λ j. cond (ne-eqb e k other j) (b ∷ v) [] ++ further j)
+
+-- the word with a number is the name with that number
+word-at : (n k e : ℕ) (vs : List (List ℕ)) → words vs ≡ true → k ≡ e + n → wordFrom k e false (joined vs) ≡ getD vs n []
+unfolding wordFrom
+word-at n k e [] h l = refl
+word-at n k e ([] ∷ vs) h l = never h
+word-at zero k e ((b ∷ v) ∷ vs) h l =
+    let it = both (solid (b ∷ v)) _ h in
+    let here : e ≡ k = omega arith in
+    let further = past k (e + 1) vs (it .1) (omega arith) in
+    from k e (joined vs) b v (it .0) ∙ (λ j. cond (eq-eqb e k here j) (b ∷ v) [] ++ further j) ∙ append-nil (b ∷ v)
+word-at (suc n) k e ((b ∷ v) ∷ vs) h l =
+    let it = both (solid (b ∷ v)) _ h in
+    let other : e ≡ k → ⊥ = λ z. omega arith in
+    let further = word-at n k (e + 1) vs (it .1) (omega arith) in
+    from k e (joined vs) b v (it .0) ∙ (λ j. cond (ne-eqb e k other j) (b ∷ v) [] ++ further j)
+
+pub nth-word : (k : ℕ) → wordOf k (joined names) ≡ nameAt k
+nth-word k = word-at k k 0 names refl (sym (zero-add k))

@@ -21,36 +21,15 @@ ghost use Rattle.console.specs.Commands.{exactly as exactlyOf};
 
 const LAST_NUMBER: u32 = 0xFFFFFF;
 
-// The names of the commands.
+// The name of a command, by its place among them all; no bytes past the last.
 fn name(i: usize) -> Line
     ensures { λ r. ⌜ textOf r ≡ nameAt i ⌝ }
 {
-    let line = Line::new();
-    match i {
-        keys::R => line.text(b"r"),
-        keys::M => line.text(b"m"),
-        keys::MS => line.text(b"ms"),
-        keys::POKE => line.text(b">"),
-        keys::POKES => line.text(b">s"),
-        keys::W => line.text(b"w"),
-        keys::RD => line.text(b"rd"),
-        keys::FF00 => line.text(b"ff00"),
-        keys::FF00_UPPER => line.text(b"FF00"),
-        keys::Z => line.text(b"z"),
-        keys::G => line.text(b"g"),
-        keys::BA => line.text(b"ba"),
-        keys::CYCLE => line.text(b"cycle"),
-        keys::ENABLE => line.text(b"enable"),
-        keys::DISABLE => line.text(b"disable"),
-        keys::RESET => line.text(b"reset"),
-        keys::NEW => line.text(b"new"),
-        keys::SAVE => line.text(b"save"),
-        keys::OPEN => line.text(b"open"),
-        keys::BESIDE => line.text(b"beside"),
-        keys::HELP => line.text(b"help"),
-        keys::Q => line.text(b"q"),
-        _ => line,
-    }
+    Line::new()
+        .text(
+            b"r m ms > >s w rd ff00 FF00 z g ba cycle enable disable reset new save open beside help q ",
+        )
+        .word(i)
 }
 
 // The place of a line's first word among them: past them all where it is none.
