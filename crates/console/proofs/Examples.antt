@@ -12,7 +12,7 @@ use Rattle.pane.specs.Faults.{faultOf, faultsFrom}
 use Rattle.pane.specs.Shown.{_⊕_, ascii, decimalUpTo, fillFrom, hexOf}
 use Rattle.pane.specs.Typed.{digitsFrom, numberOf, same, wordFrom, wordsFrom}
 use Rattle.console.specs.declared.clock.Clock.{Clock}
-use Rattle.console.specs.Apply.{applyOf}
+use Rattle.console.specs.Apply.{applyOf, controlOf}
 use Rattle.console.specs.Beside.{besideRow}
 use Rattle.console.specs.Clock.{inputsOf, isPattern, timeOf}
 use Rattle.console.specs.Commands.{commandFault, isComment, lineFault, otherFault, placeIn, placeOf}
@@ -43,7 +43,7 @@ not-reset = refl
 
 left-alone :
     (t : List ℕ) (c : Clock) (i m s : List ℕ) → applyOf (0 ∷ ascii "reset") t c i m s ≡ (timeOf c, [], i, m, s)
-unfolding applyOf same
+unfolding applyOf controlOf same
 left-alone t c i m s = refl
 
 -- where every name stands, and where what is none

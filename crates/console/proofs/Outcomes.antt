@@ -8,7 +8,7 @@ use Rattle.pane.specs.Shown.{_⊕_, ascii}
 use Rattle.console.specs.declared.clock.Clock.{Clock}
 use Rattle.console.specs.declared.step.Cycle.{Cycle}
 use Rattle.console.specs.Apply.{Outcome, countOr, goOutcome, stepOutcome}
-use Rattle.console.specs.Clock.{Time, inputsOf, letterOf, nextClock, timeOf}
+use Rattle.console.specs.Clock.{Time, inputsOf, letterOf, timeAfter, timeOf}
 use Rattle.console.specs.Step.{Running, cycleLine, cycleOf, goOf, runLine, started}
 
 -- the time, what is said, the image, the bus and the storage
@@ -20,33 +20,31 @@ outcome p q r u v = λ j. (p j, q j, r j, u j, v j)
 pub at : {c d : Clock} → c ≡ d → timeOf c ≡ timeOf d
 at p = λ j. timeOf (p j)
 
--- a command that changes the image alone
-pub image : {c d : Clock} {l l' i i' m s : List ℕ} → (c ≡ d) × ((l ≡ l') × (i ≡ i'))
-    → _≡_ {A = Outcome} (timeOf c, l, i, m, s) (timeOf d, l', i', m, s)
-image it = outcome (at (it .0)) (it .1 .0) (it .1 .1) refl refl
+-- a command that changes the image alone, and one that changes the time alone
+pub image : {c d : Clock} {l l' i i' : List ℕ} → (c ≡ d) × ((l ≡ l') × (i ≡ i'))
+    → _≡_ {A = Time × List ℕ × List ℕ} (timeOf c, l, i) (timeOf d, l', i')
+image it = λ j. (at (it .0) j, it .1 .0 j, it .1 .1 j)
+
+pub timed : {t t' : Time} {l l' i : List ℕ} → (t ≡ t') × (l ≡ l') → _≡_ {A = Time × List ℕ × List ℕ} (t, l, i) (t', l', i)
+timed {i = i} it = λ j. (it .0 j, it .1 j, i)
 
 -- a command that changes the image and the storage
 pub attached : {c d : Clock} {l l' i i' m s s' : List ℕ} → (c ≡ d) × ((l ≡ l') × ((i ≡ i') × (s ≡ s')))
     → _≡_ {A = Outcome} (timeOf c, l, i, m, s) (timeOf d, l', i', m, s')
 attached it = outcome (at (it .0)) (it .1 .0) (it .1 .1 .0) refl (it .1 .1 .1)
 
--- a command that says something, and changes the time alone
-pub timed : {t t' : Time} {l l' i m s : List ℕ} → (t ≡ t') × (l ≡ l')
-    → _≡_ {A = Outcome} (t, l, i, m, s) (t', l', i, m, s)
-timed it = outcome (it .0) (it .1) refl refl refl
-
 module _ (c : Clock) (i m s : List ℕ) where
   -- a cycle
-  pub stepped : (inputs : ℕ) (y : Cycle × List ℕ × List ℕ × List ℕ) (said : List ℕ) (next : Clock)
+  pub stepped : (inputs : ℕ) (y : Cycle × List ℕ × List ℕ × List ℕ) (said : List ℕ) (next : Time)
       → inputs ≡ inputsOf (letterOf c) → y ≡ cycleOf inputs (c .cycle) i m s
-      → said ≡ cycleLine c (y .0) (y .2) (y .3) → next ≡ nextClock c
-      → (timeOf next, said, y .1, y .2, y .3) ≡ stepOutcome c i m s
+      → said ≡ cycleLine c (y .0) (y .2) (y .3) → next ≡ timeAfter (timeOf c) (y .0 .grant)
+      → (next, said, y .1, y .2, y .3) ≡ stepOutcome c i m s
   unfolding stepOutcome
   stepped inputs y said next n e l t =
       let done = e ∙ ap (λ (k : ℕ). cycleOf k (c .cycle) i m s) n in
-      (λ j. (timeOf (t j), l j, y .1, y .2, y .3))
+      (λ j. (t j, l j, y .1, y .2, y .3))
       ∙ ap
-      (λ (z : Cycle × List ℕ × List ℕ × List ℕ). (timeOf (nextClock c), cycleLine c (z .0) (z .2) (z .3), z .1, z .2, z .3))
+      (λ (z : Cycle × List ℕ × List ℕ × List ℕ). (timeAfter (timeOf c) (z .0 .grant), cycleLine c (z .0) (z .2) (z .3), z .1, z .2, z .3))
       done
 
   -- cycles until the command ends, by whether one runs

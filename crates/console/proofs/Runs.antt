@@ -21,7 +21,7 @@ use Rattle.controller.proofs.Bits.{bit-digit, low-digit}
 use Rattle.console.specs.declared.clock.Clock.{Clock}
 use Rattle.console.specs.declared.step.Cycle.{Cycle}
 use Rattle.console.specs.declared.step.Run.{Run}
-use Rattle.console.specs.Clock.{inputsOf, letterOf}
+use Rattle.console.specs.Clock.{inputsOf, letterOf, nextClock, timeAfter, timeOf}
 use Rattle.console.specs.Step.{Running, accessText, advanced, askedOf, baText, bytesThere, counted, cycleLine, cycleOf, goOf, grantText, refusedCycle}
 use Rattle.console.proofs.Cycles.{asking-changes-nothing, other-bus}
 
@@ -107,6 +107,16 @@ module _ (c : Clock) (done : Cycle) (m s : List ℕ) {none number ba granted : L
   pub refused : test ≡ false → granted ≡ cycleLine c done m s
   unfolding cycleLine
   refused h = rw (← e, h) begun
+
+-- the time after it
+pub later : (c : Clock) (grant : ℕ) {d : Clock} {test : Bool} → test ≡ accepted grant → test ≡ true → d ≡ nextClock c
+    → timeOf d ≡ timeAfter (timeOf c) grant
+unfolding timeAfter
+later c grant e h n = rw (← e, h) (λ j. timeOf (n j))
+
+pub no-later : (c : Clock) (grant : ℕ) {test : Bool} → test ≡ accepted grant → test ≡ false → timeOf c ≡ timeAfter (timeOf c) grant
+unfolding timeAfter
+no-later c grant e h = rw (← e, h)
 
 -- a cycle more, by whether a command runs
 module _ (x : Running) (active : ℕ) (a : active ≡ reuDmaActive (x .1)) where

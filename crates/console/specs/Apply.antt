@@ -10,7 +10,7 @@ use Rattle.pane.specs.Shown.{_⊕_, ascii, decimalOf, textOf}
 use Rattle.pane.specs.Typed.{numberOf, valueOf, wordOf, wordsOf}
 use Rattle.console.specs.declared.clock.Clock.{Clock}
 use Rattle.console.specs.declared.step.Cycle.{Cycle}
-use Rattle.console.specs.Clock.{Time, inputsOf, letterOf, nextClock, timeOf}
+use Rattle.console.specs.Clock.{Time, inputsOf, letterOf, timeAfter, timeOf}
 use Rattle.console.specs.Commands.{is, oneOf}
 use Rattle.console.specs.Memory.{address, stored}
 use Rattle.console.specs.Registers.{afterRead, readText, warningOf, written}
@@ -40,7 +40,7 @@ cycleText t c = cond (eqb (wordsOf t) 2) [] ([] ⊕ ascii "the next cycle is " �
 unfoldable pub stepOutcome : Clock → List ℕ → List ℕ → List ℕ → Outcome
 stepOutcome c i m s =
     let x : (Cycle × List ℕ × List ℕ × List ℕ) = cycleOf (inputsOf (letterOf c)) (c .cycle) i m s in
-    (timeOf (nextClock c), cycleLine c (x .0) (x .2) (x .3), x .1, x .2, x .3)
+    (timeAfter (timeOf c) (x .0 .grant), cycleLine c (x .0) (x .2) (x .3), x .1, x .2, x .3)
 
 -- `g`: cycles until the command ends; a swap of 65,536 bytes takes half the limit
 unfoldable pub goOutcome : List ℕ → Clock → List ℕ → List ℕ → List ℕ → Outcome
@@ -51,17 +51,22 @@ goOutcome t c i m s =
 
 -- ---- the commands, by their word w
 
+-- those that are about the controller or the time alone: the time, what is said, the image
+unfoldable pub controlOf : List ℕ → List ℕ → Clock → List ℕ → (Time × List ℕ × List ℕ)
+controlOf w t c i =
+    cond (is "w" w) (timeOf c, warningOf i, written t i)
+    (cond (is "rd" w) (timeOf c, readText t i, afterRead t i)
+    (cond (oneOf ("ff00" ∷ "FF00" ∷ []) w) (timeOf c, [], reuTriggerFf00 i .1)
+    (cond (is "reset" w) (timeOf c, [], reuReset i 0 .1)
+    (cond (is "ba" w) ((c .cycle, wordOf 1 t, 0), [], i)
+    (cond (is "cycle" w) (cycleTime t c, cycleText t c, i) (timeOf c, [], i))))))
+
 unfoldable pub applyOf : List ℕ → List ℕ → Clock → List ℕ → List ℕ → List ℕ → Outcome
 applyOf w t c i m s =
+    let x : (Time × List ℕ × List ℕ) = controlOf w t c i in
     cond (is ">" w) (timeOf c, busHint t, i, stored t m, s)
     (cond (is ">s" w) (timeOf c, [], i, m, stored t s)
-    (cond (is "w" w) (timeOf c, warningOf i, written t i, m, s)
-    (cond (is "rd" w) (timeOf c, readText t i, afterRead t i, m, s)
-    (cond (oneOf ("ff00" ∷ "FF00" ∷ []) w) (timeOf c, [], reuTriggerFf00 i .1, m, s)
     (cond (is "enable" w) (timeOf c, [], reuSetEnabled i s 1 .1, m, reuSetEnabled i s 1 .2)
     (cond (is "disable" w) (timeOf c, [], reuSetEnabled i s 0 .1, m, reuSetEnabled i s 0 .2)
-    (cond (is "reset" w) (timeOf c, [], reuReset i 0 .1, m, s)
     (cond (is "new" w) ((0, [], 0), [], reuNew i .1, zeros m, zeros s)
-    (cond (is "g" w) (goOutcome t c i m s)
-    (cond (is "ba" w) ((c .cycle, wordOf 1 t, 0), [], i, m, s)
-    (cond (is "cycle" w) (cycleTime t c, cycleText t c, i, m, s) (timeOf c, [], i, m, s))))))))))))
+    (cond (is "g" w) (goOutcome t c i m s) (x .0, x .1, x .2, m, s))))))

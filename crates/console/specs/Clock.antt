@@ -4,6 +4,7 @@ use mathlib.Core.Bool.{Bool, true, false, cond}
 use mathlib.Core.List.{List, [], _∷_}
 use lib.Dec.{eqb, ltb}
 use lib.ListN.{length, getD}
+use Rattle.pane.specs.Answers.{accepted}
 use Rattle.pane.specs.Shown.{textOf}
 use Rattle.console.specs.declared.clock.Clock.{Clock}
 
@@ -47,3 +48,7 @@ nextClock c =
       ba = c .ba;
       at = c .at + cond (ltb (c .at) (length (textOf (c .ba)))) 1 0;
     }
+
+-- after a cycle with this grant: one that was refused takes no time
+unfoldable pub timeAfter : Time → ℕ → Time
+timeAfter t grant = cond (accepted grant) (nextTime t) t

@@ -8,4 +8,3 @@ pub mod Prompt
 pub mod Registers
 pub mod Session
 pub mod Step
-pub mod Turns

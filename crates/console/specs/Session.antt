@@ -1,34 +1,21 @@
 -- A session: what is held from one turn to the next, and what a turn does. z is the session, i the image, m the bus, s the
 -- storage, t the line that was typed.
-use Prim.Native.Nat.{ℕ, zero, suc, _-_}
+use Prim.Native.Nat.{ℕ, _-_}
 use mathlib.Core.Bool.{Bool, true, cond}
 use mathlib.Core.List.{List, []}
 use lib.Dec.{eqb, ltb}
 use lib.ListN.{length}
 use Rattle.pane.specs.Typed.{wordOf}
 use Rattle.console.specs.declared.session.Session.{Session}
-use Rattle.console.specs.declared.step.Cycle.{Cycle}
 use Rattle.console.specs.Apply.{Outcome, applyOf, countOr, stepOutcome}
-use Rattle.console.specs.Clock.{Time, inputsOf, letterAt, nextTime, timeOf}
+use Rattle.console.specs.Clock.{Time, timeOf}
 use Rattle.console.specs.Commands.{is, isComment, lineFault}
-use Rattle.console.specs.Step.{cycleOf}
 
 -- ---- the machine
 
 -- its time, the image, the bus and the storage
 abbrev pub Machine : Type 0
 Machine = Time × List ℕ × List ℕ × List ℕ
-
--- a bus cycle
-unfoldable pub cycled : Machine → Machine
-cycled x =
-    let y : (Cycle × List ℕ × List ℕ × List ℕ) = cycleOf (inputsOf (letterAt (x .0))) (x .0 .0) (x .1) (x .2) (x .3) in
-    (nextTime (x .0), y .1, y .2, y .3)
-
--- n of them
-unfoldable pub cycles : ℕ → Machine → Machine
-cycles zero x = x
-cycles (suc n) x = cycled (cycles n x)
 
 -- ---- what is held
 

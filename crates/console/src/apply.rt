@@ -5,6 +5,7 @@ use crate::keys;
 use crate::memory::address_of;
 use crate::memory::store;
 use crate::registers;
+use crate::step::after;
 use crate::step::cycle_line;
 use crate::step::go;
 use crate::step::run_cycle;
@@ -17,7 +18,7 @@ ghost use Rattle.controller.specs.Memory.{zeros};
 ghost use Rattle.pane.specs.Shown.{textOf};
 ghost use Rattle.pane.specs.Typed.{wordOf};
 ghost use Rattle.reu.specs.Exports.{reuNew, reuReset, reuSetEnabled, reuTriggerFf00};
-ghost use Rattle.console.specs.Apply.{applyOf, busHint, countOr, cycleTime, cycleText, goOutcome, stepOutcome};
+ghost use Rattle.console.specs.Apply.{applyOf, busHint, controlOf, countOr, cycleTime, cycleText, goOutcome, stepOutcome};
 ghost use Rattle.console.specs.Clock.{timeOf};
 ghost use Rattle.console.specs.Memory.{stored};
 ghost use Rattle.console.specs.Registers.{afterRead, readText, warningOf, written};
@@ -197,7 +198,7 @@ pub fn step(clock: Clock, image: &mut [u8], bus: &mut [u8], storage: &mut [u8]) 
     let done = run_cycle(clock.inputs(), clock.cycle, image, bus, storage);
     let said = cycle_line(clock, done, bus, storage);
     Applied {
-        clock: clock.next(),
+        clock: after(clock, done.grant),
         said,
     }
 }
@@ -233,7 +234,24 @@ fn quiet(clock: Clock) -> Applied
     }
 }
 
-// The command that a line is: nothing, where it is none of these.
+// A command about the controller or the time alone: nothing, where it is none of these.
+fn control(line: Line, clock: Clock, image: &mut [u8]) -> Applied
+    ensures { λ r. ⌜ (timeOf (r .clock), textOf (r .said), now (image .exit)) ≡ controlOf (wordOf 0 (textOf line)) (textOf line) clock (now (image .entry)) ⌝ }
+{
+    let place = place(line);
+    match place {
+        keys::W => write(line, clock, image),
+        keys::RD => read(line, clock, image),
+        keys::FF00 => trigger(clock, image),
+        keys::FF00_UPPER => trigger(clock, image),
+        keys::RESET => reset(clock, image),
+        keys::BA => set_ba(line, clock),
+        keys::CYCLE => set_cycle(line, clock),
+        _ => quiet(clock),
+    }
+}
+
+// The command that a line is.
 pub fn apply(
     line: Line,
     clock: Clock,
@@ -247,17 +265,10 @@ pub fn apply(
     match place {
         keys::POKE => poke(line, clock, bus),
         keys::POKES => poke_storage(line, clock, storage),
-        keys::W => write(line, clock, image),
-        keys::RD => read(line, clock, image),
-        keys::FF00 => trigger(clock, image),
-        keys::FF00_UPPER => trigger(clock, image),
         keys::ENABLE => switch(clock, image, storage, 1),
         keys::DISABLE => switch(clock, image, storage, 0),
-        keys::RESET => reset(clock, image),
         keys::NEW => renew(image, bus, storage),
         keys::G => run_command(line, clock, image, bus, storage),
-        keys::BA => set_ba(line, clock),
-        keys::CYCLE => set_cycle(line, clock),
-        _ => quiet(clock),
+        _ => control(line, clock, image),
     }
 }

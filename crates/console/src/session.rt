@@ -16,7 +16,6 @@ ghost use Prim.Native.Nat.{_-_};
 ghost use Rattle.pane.specs.Shown.{textOf};
 ghost use Rattle.console.specs.Clock.{timeOf};
 ghost use Rattle.console.specs.Session.{cycleTurn, endedAfter, endedSession, heldOf, isDropped, obeyTurn, stepsOf, turnOf};
-ghost use Rattle.console.specs.Turns.{FaultsChangeNothing, StepsAreCycles};
 
 pub struct Session {
     pub clock: Clock,
@@ -170,15 +169,3 @@ pub fn turn(
     }
     obey(line, session, image, bus, storage)
 }
-
-// ---- what holds of turns: each function does nothing, and its `ensures` is the claim
-
-// A line with a fault changes nothing.
-pub fn faults_change_nothing()
-    ensures { λ r. ⌜ FaultsChangeNothing ⌝ }
-{}
-
-// `z N` makes N cycles.
-pub fn steps_are_cycles()
-    ensures { λ r. ⌜ StepsAreCycles ⌝ }
-{}

@@ -12,6 +12,7 @@ ghost use mathlib.Core.Bool.{cond};
 ghost use lib.Dec.{eqb};
 ghost use Rattle.controller.specs.Constants.{busSize};
 ghost use Rattle.pane.specs.Shown.{_⊕_, textOf};
+ghost use Rattle.console.specs.Clock.{timeAfter, timeOf};
 ghost use Rattle.console.specs.Step.{accessText, advanced, askedOf, baText, bytesThere, counted, cycleLine, cycleOf, goOf, grantText, refusedCycle, runLine, started};
 
 const TRANSFER: u32 = 2;
@@ -145,6 +146,16 @@ pub fn cycle_line(clock: Clock, done: Cycle, bus: &[u8], storage: &[u8]) -> Line
         return bytes_there(access_text(granted, done.access), done, bus, storage);
     }
     granted
+}
+
+// The time after a cycle: one that was refused takes none.
+pub fn after(clock: Clock, grant: u32) -> Clock
+    ensures { λ r. ⌜ timeOf r ≡ timeAfter (timeOf clock) grant ⌝ }
+{
+    if is_accepted(grant) {
+        return clock.next();
+    }
+    clock
 }
 
 // ---- until the command ends

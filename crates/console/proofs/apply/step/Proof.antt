@@ -8,7 +8,7 @@ returns c =
     let its-run-cycle = c .before .before .before .before .before .before .before .before .before .before .run-cycle in
     let its-inputs = c .before .before .before .before .before .before .before .before .before .before .before .before .before .before .inputs in
     stepped _ _ _ _ _ _ _ _ (its-inputs .ensures .0) (its-run-cycle .ensures) (c .before .cycle-line .ensures)
-    (c .next .ensures)
+    (c .after .ensures)
 
 pub step-spec : {M : Type 1} → statement M
 step-spec =

@@ -1,20 +1,34 @@
 -- What holds of turns: a line with a fault changes nothing, and `z N` makes N cycles. z is the session, i the image, m the bus,
 -- s the storage, t the line.
-use Prim.Native.Nat.{ℕ, suc, _-_, _≤_}
+use Prim.Native.Nat.{ℕ, zero, suc, _-_, _≤_}
 use mathlib.Core.Path.{_≡_}
 use mathlib.Core.Bool.{true}
 use mathlib.Core.List.{List, []}
 use Rattle.pane.specs.Typed.{wordOf}
 use Rattle.console.specs.declared.session.Session.{Session}
 use Rattle.console.specs.Apply.{countOr}
 use Rattle.console.specs.Commands.{is, lineFault}
-use Rattle.console.specs.Session.{cycles, heldOf, machineOf, turnOf}
+use Rattle.console.specs.declared.step.Cycle.{Cycle}
+use Rattle.console.specs.Clock.{inputsOf, letterAt, timeAfter}
+use Rattle.console.specs.Session.{Machine, heldOf, machineOf, turnOf}
+use Rattle.console.specs.Step.{cycleOf}
 
 -- a line with a fault: what is held stays as it was, the fault is said, and no line is obeyed
 abbrev pub FaultsChangeNothing : Type 0
 FaultsChangeNothing =
     (t : List ℕ) (z : Session) (i m s : List ℕ) → z .left ≡ 0 → (lineFault t ≡ [] → ⊥) →
     turnOf t z i m s ≡ (heldOf z i m s, lineFault t, [])
+
+-- a bus cycle
+unfoldable pub cycled : Machine → Machine
+cycled x =
+    let y : (Cycle × List ℕ × List ℕ × List ℕ) = cycleOf (inputsOf (letterAt (x .0))) (x .0 .0) (x .1) (x .2) (x .3) in
+    (timeAfter (x .0) (y .0 .grant), y .1, y .2, y .3)
+
+-- n of them
+unfoldable pub cycles : ℕ → Machine → Machine
+cycles zero x = x
+cycles (suc n) x = cycled (cycles n x)
 
 -- one turn after another: turn k begins with z k, i k, m k and s k, and t k is the next line then
 pub record Turns (z : ℕ → Session) (i m s t : ℕ → List ℕ) : Type 0 where

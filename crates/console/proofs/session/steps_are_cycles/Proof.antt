@@ -1,9 +1,0 @@
-use Rattle.console.proofs.Turns.{steps-are-cycles}
-use Rattle.console.proofs.session.steps_are_cycles.Statement.{statement}
-use Rattle.console.proofs.session.steps_are_cycles.Tie as tie
-
-returns : tie.Need-returns
-returns c = steps-are-cycles
-
-pub steps-are-cycles-spec : {M : Type 1} → statement M
-steps-are-cycles-spec = tie.close (tie.spec returns)
