@@ -1,12 +1,12 @@
 -- The grant that is shown is the one that the cycle takes.
-use mathlib.Core.Path.{_≡_, refl, sym, ap, _∙_}
+use mathlib.Core.Path.{_≡_, refl, sym, ap, _∙_, subst}
 use mathlib.Core.Bool.{Bool, true, false, cond, false≢true}
 use mathlib.Core.List.{List}
-use Prim.Native.Nat.{ℕ, _≤_}
+use Prim.Native.Nat.{ℕ, _+_, _≤_, _<_}
 use native.Mathlib.Omega.{arith}
 use lib.Dec.{eqb, ltb}
 use lib.ListN.{length}
-use borrow.Author.Tests.{eq-eqb, eqb-false, eqb-true, le-ltb, ne-eqb}
+use borrow.Author.Tests.{eq-eqb, eqb-false, eqb-true, le-ltb, lt-ltb, ltb-true}
 use Rattle.controller.specs.declared.reu.Answer.{Answer}
 use Rattle.controller.specs.declared.reu.Reu.{Reu}
 use Rattle.controller.specs.declared.timing.ReuBusAction.{ReuBusAction}
@@ -14,25 +14,25 @@ use Rattle.controller.specs.declared.timing.ReuBusAction.the-variants.{Cpu, Hol
 use Rattle.controller.specs.Bytes.{bit, bitOf}
 use Rattle.controller.specs.BusAction.{Granted, busAction}
 use Rattle.controller.specs.Calls.{actionNumber, answered, busActionCall, cycleCall, grantedAnswer, refused, tickedAnswer}
-use Rattle.controller.specs.Constants.{busSize, storageSize}
+use Rattle.controller.specs.Constants.{busSize}
 use Rattle.controller.specs.Cycle.{cycleBy, runReuCycle}
 use Rattle.controller.specs.Refusals.{checked, refusalOf}
-use Rattle.controller.proofs.Checked.{Accepted} 
 use Rattle.controller.proofs.Checked.{accepted as lengths}
-use Rattle.image.specs.Layout.{packImage}
 use Rattle.image.specs.Open.{openImage}
 use Rattle.image.proofs.Opening.{opened-long}
 use Rattle.reu.specs.Exports.{changeBoth, changeStorage, changedBoth, changedStorage, code, flag, imageAfter, refusal, refusalUnit, reuBusAction, reuCycle}
 use Rattle.pane.specs.Answers.{accepted}
 use Rattle.pane.specs.Rows.{copyOf}
-use Rattle.console.specs.declared.step.Cycle.{Cycle}
 use Rattle.console.specs.Step.{askedOf, cycleOf}
 use Rattle.turns.specs.Cycles.{GrantsAreTaken, answerFor}
+
+abbrev Left : Type 0
+Left = List ℕ × List ℕ × List ℕ
 
 -- what a cycle k does beside a grant g
 abbrev Takes : List ℕ → (ℕ × List ℕ × List ℕ × List ℕ) → (ℕ × List ℕ × List ℕ) → Type 0
 Takes m k g =
-    (k .0 ≡ answerFor (g .0)) × (ltb (g .0) 2 ≡ true → (k .1, k .2, k .3) ≡ (g .1, m, g .2))
+    (k .0 ≡ answerFor (g .0)) × (ltb (g .0) 2 ≡ true → _≡_ {A = Left} (k .1, k .2, k .3) (g .1, m, g .2))
 
 large : (n : ℕ) → (n ≡ 0 → ⊥) → accepted (refusal n) ≡ false
 large n bad = let l : refusalUnit ≤ refusal n = omega arith in le-ltb (refusal n) refusalUnit l
@@ -57,7 +57,87 @@ module _ (i m s : List ℕ) (high number low phi1 : ℕ) where
   by-action Transfer w t = (refl, λ h. absurd (false≢true h))
 
   -- a cycle that is accepted opened the image, and was lent what has the right lengths
-  open : (b : Bool) → eqb n 0 ≡ b → accepted (cycle .0) ≡ true → n ≡ 0
+  opens : (b : Bool) → eqb n 0 ≡ b → accepted (cycle .0) ≡ true → n ≡ 0
   unfolding changeBoth checked
-  open true e ok = eqb-true n 0 e
-  open false e ok = absurd (false≢true (sym (rw e (large n (eqb-false n 0 e))) ∙ ok))
+  opens true e ok = eqb-true n 0 e
+  opens false e ok =
+      let no : accepted (cycle .0) ≡ false = rw e (large n (eqb-false n 0 e)) in
+      absurd (false≢true (sym no ∙ ok))
+
+  abbrev k : ℕ
+  k = refusalOf u (length m) (length s)
+
+  abbrev call : Answer × List ℕ × List ℕ
+  call = cycleCall u m s (flag high) (flag phi1) number (flag low)
+
+  module _ (z : n ≡ 0) where
+    called : cycle ≡ changedBoth call i
+    unfolding changeBoth checked
+    called = λ j. cond (eq-eqb n 0 z j) (changedBoth call i) (refusal n, i, m, s)
+
+    whole : (b : Bool) → eqb k 0 ≡ b → accepted (cycle .0) ≡ true → k ≡ 0
+    unfolding cycleCall checked code
+    whole true e ok = eqb-true k 0 e
+    whole false e ok =
+        let sum : refusal k + 0 ≡ refusal k = omega arith in
+        let no : accepted (code (call .0)) ≡ false = rw (e, sum) (large k (eqb-false k 0 e)) in
+        absurd (false≢true (sym no ∙ ap (λ (x : ℕ × List ℕ × List ℕ × List ℕ). accepted (x .0)) (sym called) ∙ ok))
+
+    abbrev g : Granted
+    g = busAction u s (flag high) (flag phi1) number
+
+    module _ (y : k ≡ 0) where
+      ran : cycle ≡ changedBoth (tickedAnswer (cycleBy (g .0 .action) (g .0 .reu) m (g .1) number (flag low))) i
+      unfolding cycleCall checked runReuCycle
+      ran =
+          called
+          ∙ (λ j. changedBoth (cond (eq-eqb k 0 y j) (tickedAnswer (runReuCycle u m s (flag high) (flag phi1) number (flag low))) (refused u k, m, s)) i)
+
+      granted : reuBusAction i s high phi1 number ≡ changedStorage (grantedAnswer g) i
+      unfolding changeStorage busActionCall checked
+      granted =
+          let bus : busSize ≡ length m = sym (lengths u k (length m) (length s) refl y .bus-length) in
+          let none : refusalOf u busSize (length s) ≡ 0 = ap (λ (x : ℕ). refusalOf u x (length s)) bus ∙ y in
+          (λ j. cond (eq-eqb n 0 z j) (changedStorage (busActionCall u s (flag high) (flag phi1) number) i) (refusal n, i, s))
+          ∙ (λ j. changedStorage (cond (eq-eqb (refusalOf u busSize (length s)) 0 none j) (grantedAnswer g) (refused u (refusalOf u busSize (length s)), s)) i)
+
+      takes : Takes m cycle (reuBusAction i s high phi1 number)
+      takes =
+          subst (λ (x : (ℕ × List ℕ × List ℕ × List ℕ) × (ℕ × List ℕ × List ℕ)). Takes m (x .0) (x .1))
+          (λ j. (sym ran j, sym granted j)) (by-action (g .0 .action) (g .0 .reu) (g .1))
+
+  taken : accepted (cycle .0) ≡ true → (n ≡ 0) × Takes m cycle (reuBusAction i s high phi1 number)
+  taken ok =
+      let z = opens (eqb n 0) refl ok in
+      (z, takes z (whole z (eqb k 0) refl ok))
+
+-- an image that opens is its own copy
+copied : (i : List ℕ) → openImage i .refusal ≡ 0 → i ≡ copyOf i
+copied i z = rw (eq-eqb (length i) 34 (opened-long i z))
+
+module _ (inputs number : ℕ) (i m s : List ℕ) where
+  abbrev input : ℕ → ℕ
+  input b = bitOf (bit inputs b)
+
+  abbrev x : ℕ × List ℕ × List ℕ × List ℕ
+  x = reuCycle i m s (input 2) number (input 0) (input 1)
+
+  abbrev grant : List ℕ → (ℕ × List ℕ × List ℕ)
+  grant j = reuBusAction j s (input 2) (input 1) number
+
+  abbrev Shown : ℕ → Type 0
+  Shown a = (x .0 ≡ answerFor a) × (ltb a 2 ≡ true → _≡_ {A = Left} (x .1, x .2, x .3) (grant i .1, m, grant i .2))
+
+  shown : (b : Bool) → accepted (x .0) ≡ b → Shown (cycleOf inputs number i m s .0 .grant)
+  unfolding cycleOf askedOf
+  shown true ok =
+      let it = taken i m s (input 2) number (input 0) (input 1) ok in
+      rw ok (subst (λ (j : List ℕ). Shown (grant j .0)) (copied i (it .0)) (it .1))
+  shown false bad =
+      let small : ltb (x .0) 2 ≡ true → accepted (x .0) ≡ true =
+      λ h. let l : x .0 < 2 = ltb-true (x .0) 2 h in lt-ltb (x .0) refusalUnit (omega arith) in
+      let same : x .0 ≡ answerFor (x .0) = rw bad in
+      rw bad (same, λ h. absurd (false≢true (sym bad ∙ small h)))
+
+pub grants-are-taken : GrantsAreTaken
+grants-are-taken inputs number i m s = shown inputs number i m s (accepted (x inputs number i m s .0)) refl

@@ -21,6 +21,7 @@ GrantsAreTaken =
     let high : ℕ = bitOf (bit inputs 2) in
     let phi1 : ℕ = bitOf (bit inputs 1) in
     let k : (ℕ × List ℕ × List ℕ × List ℕ) = reuCycle i m s high number (bitOf (bit inputs 0)) phi1 in
+    let left : (List ℕ × List ℕ × List ℕ) = (k .1, k .2, k .3) in
     let g : (ℕ × List ℕ × List ℕ) = reuBusAction i s high phi1 number in
     let shown : ℕ = cycleOf inputs number i m s .0 .grant in
-    (k .0 ≡ answerFor shown) × (ltb shown 2 ≡ true → (k .1, k .2, k .3) ≡ (g .1, m, g .2))
+    (k .0 ≡ answerFor shown) × (ltb shown 2 ≡ true → left ≡ (g .1, m, g .2))
