@@ -35,12 +35,13 @@ copyOf i = cond (eqb (length i) 34) i (replicate 34 255)
 abbrev pub reads : List ℕ → ℕ → ℕ
 reads i n = reuRead (copyOf i) n .0 % 256
 
+abbrev pub registerNames : List (List ℕ)
+registerNames =
+    ascii " STATUS  " ∷ ascii " COMMAND " ∷ ascii " C64 LO  " ∷ ascii " C64 HI  " ∷ ascii " EXP LO  " ∷ ascii " EXP HI  "
+    ∷ ascii " BANK    " ∷ ascii " LEN LO  " ∷ ascii " LEN HI  " ∷ ascii " MASK    " ∷ ascii " CONTROL " ∷ []
+
 abbrev pub registerName : ℕ → List ℕ
-registerName n =
-    getD
-    (ascii " STATUS  " ∷ ascii " COMMAND " ∷ ascii " C64 LO  " ∷ ascii " C64 HI  " ∷ ascii " EXP LO  "
-    ∷ ascii " EXP HI  " ∷ ascii " BANK    " ∷ ascii " LEN LO  " ∷ ascii " LEN HI  " ∷ ascii " MASK    " ∷ [])
-    n (ascii " CONTROL ")
+registerName n = getD registerNames n []
 
 -- the four transfer types, by the low two bits of the command register
 abbrev pub typeName : ℕ → List ℕ

@@ -80,23 +80,15 @@ fn read_gives(image: &[u8], register: u8) -> u8
 
 // ---- the registers
 
+// A register by its address and its name: nine characters of a text that has them all.
 fn name(register: u8) -> Line
     ensures { λ r. ⌜ textOf r ≡ [] ⊕ ascii "DF0" ⊕ hexOf 1 register ⊕ registerName register ⌝ }
 {
-    let line = Line::new().text(b"DF0").hex1(register);
-    match register {
-        0 => line.text(b" STATUS  "),
-        1 => line.text(b" COMMAND "),
-        2 => line.text(b" C64 LO  "),
-        3 => line.text(b" C64 HI  "),
-        4 => line.text(b" EXP LO  "),
-        5 => line.text(b" EXP HI  "),
-        6 => line.text(b" BANK    "),
-        7 => line.text(b" LEN LO  "),
-        8 => line.text(b" LEN HI  "),
-        9 => line.text(b" MASK    "),
-        _ => line.text(b" CONTROL "),
-    }
+    let names = Line::new().text(
+        b" STATUS   COMMAND  C64 LO   C64 HI   EXP LO   EXP HI   BANK     LEN LO   LEN HI   MASK     CONTROL ",
+    );
+    let name = Line::new().line(names, 9 * (register as usize)).head(9);
+    Line::new().text(b"DF0").hex1(register).line(name, 0)
 }
 
 fn type_name(line: Line, kind: u8) -> Line
