@@ -1,6 +1,7 @@
 -- Asked for a grant twice: the second time the same is granted and the same is left, since the byte that the first has restored is
--- restored again. Of the monitor's laws only those of this file look inside `busAction`.
-use mathlib.Core.Path.{_≡_, refl, ap, subst}
+-- restored again. So a cycle does the same after the asking. Of this crate's laws only those of this file look inside `busAction` and the
+-- cycle.
+use mathlib.Core.Path.{_≡_, refl, sym, ap, _∙_, subst}
 use mathlib.Core.Bool.{Bool, true, false, not, _&&_, cond}
 use mathlib.Core.List.{List, []}
 use Prim.Native.Nat.{ℕ}
@@ -12,6 +13,11 @@ use Rattle.controller.specs.declared.dma.Dma.the-variants.{Idle, Running}
 use Rattle.controller.specs.declared.reu.Reu.{Reu}
 use Rattle.controller.specs.declared.reu.BusAnswer.{BusAnswer}
 use Rattle.controller.specs.BusAction.{Granted, busAction, decide, fall, fallOnSwapWrite, giveUp, repeated, restored, resumed, swapReads, swapWrites}
+use Rattle.controller.specs.declared.reu.Answer.{Answer}
+use Rattle.controller.specs.Calls.{busActionCall, cycleCall, grantedAnswer, refused, tickedAnswer}
+use Rattle.controller.specs.Constants.{busSize}
+use Rattle.controller.specs.Cycle.{cycleBy, runReuCycle}
+use Rattle.controller.specs.Refusals.{checked, refusalOf}
 use Rattle.controller.specs.Reu.{withHistory}
 use Rattle.controller.specs.Timing.{c64Access, reads, writes}
 
@@ -50,7 +56,7 @@ module _ (u : Reu) (s : List ℕ) where
       (either (eqb (u .«swap_read_delay») 0) _ _ s (either falling _ _ s (falls late) (untouched _ s)) (untouched _ s))
 
 -- nothing falls: the storage stays
-pub stays : (u : Reu) (t : List ℕ) (high late : Bool)
+stays : (u : Reu) (t : List ℕ) (high late : Bool)
     → _≡_ {A = Granted} (decide u [] high false late .0, t) (decide u t high false late)
 unfolding decide
 stays u t high late = go (u .«terminal_swap_write») (eqb (u .«swap_read_delay») 0) _ _ _
@@ -76,7 +82,41 @@ by-history : (was phi1 : Bool) (u : Reu) (q late : Bool) (s : List ℕ)
 by-history true phi1 u q late s = decides (repeated u (not phi1)) s phi1 (not phi1) late
 by-history false phi1 u q late s = resumes (phi1 && q) u phi1 late s
 
-pub asked-again : (u : Reu) (s : List ℕ) (high phi1 : Bool) (number : ℕ) → Again (λ t. busAction u t high phi1 number) s
+asked-again : (u : Reu) (s : List ℕ) (high phi1 : Bool) (number : ℕ) → Again (λ t. busAction u t high phi1 number) s
 unfolding busAction resumed
 asked-again u s high phi1 number =
     by-history (u .«ba_was_high») phi1 (withHistory u phi1 (phi1 && not high)) _ (u .«late_ba_fall») s
+
+-- ---- asked before a cycle, on a controller that may be refused, and then nothing is written
+
+module _ (m : List ℕ) (hm : length m ≡ busSize) (s : List ℕ) (high phi1 : Bool) (number : ℕ) (low : Bool) (u : Reu) where
+  abbrev g : Granted
+  g = busAction u s high phi1 number
+
+  abbrev call : List ℕ → (Answer × List ℕ × List ℕ)
+  call t = cycleCall u m t high phi1 number low
+
+  abbrev k : ℕ
+  k = refusalOf u busSize (length s)
+
+  abbrev ran : List ℕ → (Answer × List ℕ × List ℕ)
+  ran t = tickedAnswer (runReuCycle u m t high phi1 number low)
+
+  taken : (t : List ℕ) → length t ≡ length s → eqb k 0 ≡ true → call t ≡ ran t
+  unfolding cycleCall checked
+  taken t l e =
+      let none : eqb (refusalOf u (length m) (length t)) 0 ≡ true = (λ j. eqb (refusalOf u (hm j) (l j)) 0) ∙ e in
+      λ j. cond (none j) (ran t) (refused u (refusalOf u (length m) (length t)), m, t)
+
+  after-grant : (b : Bool) → eqb k 0 ≡ b → call (cond b (grantedAnswer g) (refused u k, s) .1) ≡ call s
+  unfolding runReuCycle
+  after-grant false e = refl
+  after-grant true e =
+      let again : Again (λ t. busAction u t high phi1 number) s = asked-again u s high phi1 number in
+      taken (g .1) (again .long) e
+      ∙ ap (λ (x : Granted). tickedAnswer (cycleBy (x .0 .action) (x .0 .reu) m (x .1) number low)) (again .same)
+      ∙ sym (taken s refl e)
+
+  pub asked-first : call (busActionCall u s high phi1 number .1) ≡ call s
+  unfolding busActionCall checked
+  asked-first = after-grant (eqb k 0) refl

@@ -9,54 +9,16 @@ use lib.ListN.{length, replicate}
 use borrow.Author.Tests.{eqb-false, le-ltb, ne-eqb}
 use Rattle.controller.specs.declared.reu.Answer.{Answer}
 use Rattle.controller.specs.declared.reu.Reu.{Reu}
-use Rattle.controller.specs.BusAction.{Granted, busAction}
-use Rattle.controller.specs.Calls.{busActionCall, cycleCall, grantedAnswer, refused, tickedAnswer}
-use Rattle.controller.specs.Constants.{busSize, storageSize}
-use Rattle.controller.specs.Cycle.{cycleBy, runReuCycle}
+use Rattle.controller.specs.Calls.{busActionCall, cycleCall}
+use Rattle.controller.specs.Constants.{busSize}
 use Rattle.controller.specs.Refusals.{checked, refusalOf, wellFormed}
 use Rattle.image.specs.Open.{bytesOk, imageOk, openImage}
 use Rattle.reu.specs.Exports.{changeBoth, changeStorage, changedBoth, changedStorage, code, flag, refusal, refusalUnit, reuBusAction, reuCycle}
 use Rattle.pane.specs.Answers.{accepted}
 use Rattle.pane.specs.Rows.{copyOf}
-use Rattle.console.proofs.Asked.{Again, asked-again}
+use Rattle.console.proofs.Asked.{asked-first}
 
 module _ (m : List ℕ) (hm : length m ≡ busSize) (s : List ℕ) (high number low phi1 : ℕ) where
-  -- on the controller, which may be refused, and then nothing is written
-  module _ (u : Reu) where
-    abbrev g : Granted
-    g = busAction u s (flag high) (flag phi1) number
-
-    abbrev call : List ℕ → (Answer × List ℕ × List ℕ)
-    call t = cycleCall u m t (flag high) (flag phi1) number (flag low)
-
-    again : Again (λ t. busAction u t (flag high) (flag phi1) number) s
-    again = asked-again u s (flag high) (flag phi1) number
-
-    abbrev k : ℕ
-    k = refusalOf u busSize (length s)
-
-    abbrev ran : List ℕ → (Answer × List ℕ × List ℕ)
-    ran t = tickedAnswer (runReuCycle u m t (flag high) (flag phi1) number (flag low))
-
-    taken : (t : List ℕ) → length t ≡ length s → eqb k 0 ≡ true → call t ≡ ran t
-    unfolding cycleCall checked
-    taken t l e =
-        let none : eqb (refusalOf u (length m) (length t)) 0 ≡ true = (λ j. eqb (refusalOf u (hm j) (l j)) 0) ∙ e in
-        λ j. cond (none j) (ran t) (refused u (refusalOf u (length m) (length t)), m, t)
-
-    granted : (b : Bool) → eqb k 0 ≡ b → call (cond b (grantedAnswer g) (refused u k, s) .1) ≡ call s
-    unfolding runReuCycle
-    granted false e = refl
-    granted true e =
-        taken (g .1) (again .long) e
-        ∙ ap (λ (x : Granted). tickedAnswer (cycleBy (x .0 .action) (x .0 .reu) m (x .1) number (flag low))) (again .same)
-        ∙ sym (taken s refl e)
-
-    called : call (busActionCall u s (flag high) (flag phi1) number .1) ≡ call s
-    unfolding busActionCall checked
-    called = granted (eqb k 0) refl
-
-  -- on an image, and on a copy of it
   module _ (i : List ℕ) where
     abbrev cycle : List ℕ → (ℕ × List ℕ × List ℕ × List ℕ)
     cycle t = reuCycle i m t high number low phi1
@@ -67,14 +29,17 @@ module _ (m : List ℕ) (hm : length m ≡ busSize) (s : List ℕ) (high number 
     abbrev u : Reu
     u = openImage i .reu
 
-    opened : (t : List ℕ) → eqb n 0 ≡ true → cycle t ≡ changedBoth (call u t) i
+    abbrev call : List ℕ → (Answer × List ℕ × List ℕ)
+    call t = cycleCall u m t (flag high) (flag phi1) number (flag low)
+
+    opened : (t : List ℕ) → eqb n 0 ≡ true → cycle t ≡ changedBoth (call t) i
     unfolding changeBoth checked
-    opened t e = λ j. cond (e j) (changedBoth (call u t) i) (refusal n, i, m, t)
+    opened t e = λ j. cond (e j) (changedBoth (call t) i) (refusal n, i, m, t)
 
     by-image : (b : Bool) → eqb n 0 ≡ b
         → cycle (cond b (changedStorage (busActionCall u s (flag high) (flag phi1) number) i) (refusal n, i, s) .2) ≡ cycle s
     by-image false e = refl
-    by-image true e = opened _ e ∙ ap (λ (x : Answer × List ℕ × List ℕ). changedBoth x i) (called u) ∙ sym (opened s e)
+    by-image true e = opened _ e ∙ ap (λ (x : Answer × List ℕ × List ℕ). changedBoth x i) (asked-first m hm s (flag high) (flag phi1) number (flag low) u) ∙ sym (opened s e)
 
     by-copy : (b : Bool) → cycle (reuBusAction (cond b i (replicate 34 255)) s high phi1 number .2) ≡ cycle s
     unfolding changeStorage checked openImage imageOk bytesOk
