@@ -9,30 +9,17 @@ use lib.ListN.{length}
 use borrow.Author.Tests.{eq-eqb, eqb-false, eqb-true, le-ltb, lt-ltb, ltb-true}
 use Rattle.controller.specs.declared.reu.Answer.{Answer}
 use Rattle.controller.specs.declared.reu.Reu.{Reu}
-use Rattle.controller.specs.declared.timing.ReuBusAction.{ReuBusAction}
-use Rattle.controller.specs.declared.timing.ReuBusAction.the-variants.{Cpu, Hold, Transfer}
 use Rattle.controller.specs.Bytes.{bit, bitOf}
-use Rattle.controller.specs.BusAction.{Granted, busAction}
-use Rattle.controller.specs.Calls.{actionNumber, answered, busActionCall, cycleCall, grantedAnswer, refused, tickedAnswer}
-use Rattle.controller.specs.Constants.{busSize}
-use Rattle.controller.specs.Cycle.{cycleBy, runReuCycle}
+use Rattle.controller.specs.Calls.{busActionCall, cycleCall}
 use Rattle.controller.specs.Refusals.{checked, refusalOf}
-use Rattle.controller.proofs.Checked.{accepted as lengths}
 use Rattle.image.specs.Open.{openImage}
 use Rattle.image.proofs.Opening.{opened-long}
-use Rattle.reu.specs.Exports.{changeBoth, changeStorage, changedBoth, changedStorage, code, flag, imageAfter, refusal, refusalUnit, reuBusAction, reuCycle}
+use Rattle.reu.specs.Exports.{changeBoth, changeStorage, changedBoth, changedStorage, code, flag, refusal, refusalUnit, reuBusAction, reuCycle}
 use Rattle.pane.specs.Answers.{accepted}
 use Rattle.pane.specs.Rows.{copyOf}
 use Rattle.console.specs.Step.{askedOf, cycleOf}
 use Rattle.turns.specs.Cycles.{GrantsAreTaken, answerFor}
-
-abbrev Left : Type 0
-Left = List ℕ × List ℕ × List ℕ
-
--- what a cycle k does beside a grant g
-abbrev Takes : List ℕ → (ℕ × List ℕ × List ℕ × List ℕ) → (ℕ × List ℕ × List ℕ) → Type 0
-Takes m k g =
-    (k .0 ≡ answerFor (g .0)) × (ltb (g .0) 2 ≡ true → _≡_ {A = Left} (k .1, k .2, k .3) (g .1, m, g .2))
+use Rattle.turns.proofs.Taken.{Left, Takes, calls-take}
 
 large : (n : ℕ) → (n ≡ 0 → ⊥) → accepted (refusal n) ≡ false
 large n bad = let l : refusalUnit ≤ refusal n = omega arith in le-ltb (refusal n) refusalUnit l
@@ -46,15 +33,6 @@ module _ (i m s : List ℕ) (high number low phi1 : ℕ) where
 
   abbrev cycle : ℕ × List ℕ × List ℕ × List ℕ
   cycle = reuCycle i m s high number low phi1
-
-  -- by the action a, which leaves the controller w and the storage t
-  by-action : (a : ReuBusAction) (w : Reu) (t : List ℕ)
-      → Takes m (changedBoth (tickedAnswer (cycleBy a w m t number (flag low))) i)
-      (changedStorage (answered (actionNumber a) w, t) i)
-  unfolding cycleBy code imageAfter
-  by-action Cpu w t = (refl, λ h. refl)
-  by-action Hold w t = (refl, λ h. refl)
-  by-action Transfer w t = (refl, λ h. absurd (false≢true h))
 
   -- a cycle that is accepted opened the image, and was lent what has the right lengths
   opens : (b : Bool) → eqb n 0 ≡ b → accepted (cycle .0) ≡ true → n ≡ 0
@@ -83,28 +61,15 @@ module _ (i m s : List ℕ) (high number low phi1 : ℕ) where
         let no : accepted (code (call .0)) ≡ false = rw (e, sum) (large k (eqb-false k 0 e)) in
         absurd (false≢true (sym no ∙ ap (λ (x : ℕ × List ℕ × List ℕ × List ℕ). accepted (x .0)) (sym called) ∙ ok))
 
-    abbrev g : Granted
-    g = busAction u s (flag high) (flag phi1) number
-
     module _ (y : k ≡ 0) where
-      ran : cycle ≡ changedBoth (tickedAnswer (cycleBy (g .0 .action) (g .0 .reu) m (g .1) number (flag low))) i
-      unfolding cycleCall checked runReuCycle
-      ran =
-          called
-          ∙ (λ j. changedBoth (cond (eq-eqb k 0 y j) (tickedAnswer (runReuCycle u m s (flag high) (flag phi1) number (flag low))) (refused u k, m, s)) i)
-
-      granted : reuBusAction i s high phi1 number ≡ changedStorage (grantedAnswer g) i
-      unfolding changeStorage busActionCall checked
-      granted =
-          let bus : busSize ≡ length m = sym (lengths u k (length m) (length s) refl y .bus-length) in
-          let none : refusalOf u busSize (length s) ≡ 0 = ap (λ (x : ℕ). refusalOf u x (length s)) bus ∙ y in
-          (λ j. cond (eq-eqb n 0 z j) (changedStorage (busActionCall u s (flag high) (flag phi1) number) i) (refusal n, i, s))
-          ∙ (λ j. changedStorage (cond (eq-eqb (refusalOf u busSize (length s)) 0 none j) (grantedAnswer g) (refused u (refusalOf u busSize (length s)), s)) i)
+      granted : reuBusAction i s high phi1 number ≡ changedStorage (busActionCall u s (flag high) (flag phi1) number) i
+      unfolding changeStorage checked
+      granted = λ j. cond (eq-eqb n 0 z j) (changedStorage (busActionCall u s (flag high) (flag phi1) number) i) (refusal n, i, s)
 
       takes : Takes m cycle (reuBusAction i s high phi1 number)
       takes =
           subst (λ (x : (ℕ × List ℕ × List ℕ × List ℕ) × (ℕ × List ℕ × List ℕ)). Takes m (x .0) (x .1))
-          (λ j. (sym ran j, sym granted j)) (by-action (g .0 .action) (g .0 .reu) (g .1))
+          (λ j. (sym called j, sym granted j)) (calls-take u m s (flag high) (flag phi1) number (flag low) y i)
 
   taken : accepted (cycle .0) ≡ true → (n ≡ 0) × Takes m cycle (reuBusAction i s high phi1 number)
   taken ok =
