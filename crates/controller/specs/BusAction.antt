@@ -1,9 +1,9 @@
 -- `bus_action`, the grant of a cycle, in the original's order: the rise, the recall's fall, the terminal pair, the delay, the fall rules, the grant record.
-use Rattle.controller.specs.Prelude.{ℕ, _-_, Bool, true, false, not, _&&_, _||_, Bool·beq, cond, List, eqb, Recall, Swap, ReadC64, Dma, Idle, Running, Hold, Transfer, ReuBusAction, Reu, BusAnswer, FlagAnswer}
+use Rattle.controller.specs.Prelude.{ℕ, _-_, Bool, true, false, not, _&&_, _||_, Bool·beq, cond, List, eqb, Recall, Swap, ReadC64, Dma, Idle, Running, Put, Nothing, Storage, Hold, Transfer, ReuBusAction, Reu, BusAnswer, FlagAnswer}
 use Rattle.controller.specs.Constants.{command, withoutFf00}
 use Rattle.controller.specs.Bytes.{bit}
 use Rattle.controller.specs.Reu.{reg, withDma, withHistory, withRepeat, withTerminal, withRefresh, withRelease, withDelay, withPhase}
-use Rattle.controller.specs.Memory.{setStorage}
+use Rattle.controller.specs.Memory.{putStorage}
 use Rattle.controller.specs.Timing.{actionForCycle, c64Access, reads, writes}
 use Rattle.controller.specs.Dma.{isType, isWritePhase, active, runs, firstByte, lastByte}
 
@@ -17,12 +17,12 @@ swapWrites x = runs (λ d. isType (d .«transfer_type») Swap && isWritePhase (d
 abbrev pub recallStarts : Dma → Bool
 recallStarts x = runs (λ d. isType (d .«transfer_type») Recall && d .«first_byte») x
 
--- the grant and the controller, with the storage
-abbrev pub Granted : Type 0
-Granted = BusAnswer × List ℕ
+-- the grant, the controller after it, and what is written
+abbrev pub grants : ReuBusAction → Reu → Put → BusAnswer
+grants action u put = record { action = action; reu = u; put = put }
 
 abbrev pub granted : ReuBusAction → Reu → BusAnswer
-granted action u = record { action = action; reu = u }
+granted action u = grants action u Nothing
 
 -- the grant record's plain rule
 unfoldable pub plain : Reu → Bool → BusAnswer
@@ -33,17 +33,12 @@ abbrev pub readAgain : Dma → Dma
 readAgain Idle = Idle
 readAgain (Running d) = Running (withPhase d ReadC64)
 
-abbrev pub restored : Dma → List ℕ → List ℕ
-restored Idle s = s
-restored (Running d) s = setStorage s (d .«reu_addr») (d .latch)
+abbrev pub restored : Dma → Put
+restored Idle = Nothing
+restored (Running d) = Storage (d .«reu_addr») (d .latch)
 
-abbrev pub giveUp : Reu → List ℕ → (Reu × List ℕ)
-giveUp u s = (withDma u (readAgain (u .dma)), restored (u .dma) s)
-
--- "a rise on a write phase with equal parity"
-unfoldable pub resumed : Reu → List ℕ → Bool → ℕ → (Reu × List ℕ)
-resumed u s rising cycle =
-    cond (rising && (swapWrites (u .dma) && Bool·beq (runs (λ d. d .«read_clock_odd») (u .dma)) (bit cycle 0))) (giveUp u s) (u, s)
+abbrev pub givenUp : ReuBusAction → Reu → BusAnswer
+givenUp action u = grants action (withDma u (readAgain (u .dma))) (restored (u .dma))
 
 -- "immediate recall whose first byte meets a fall repeats its latch"; immediate by COMMAND's bit 4 at the fall
 unfoldable pub repeated : Reu → Bool → Reu
@@ -57,34 +52,54 @@ fallOnRead u =
     (cond (lastByte (u .dma)) (granted Transfer (withTerminal u true)) (granted Hold (withDelay u 2)))
 
 -- a fall on a swap's write phase: a late one reads again after a cycle, any other gives the write up
-unfoldable pub fallOnSwapWrite : Reu → List ℕ → Bool → Granted
-fallOnSwapWrite u s late =
-    cond late (granted Hold (withRefresh (withDelay u 1) true), s) (granted Hold (giveUp u s .0), giveUp u s .1)
+unfoldable pub fallOnSwapWrite : Reu → Bool → BusAnswer
+fallOnSwapWrite u late = cond late (granted Hold (withRefresh (withDelay u 1) true)) (givenUp Hold u)
 
 -- a fall on a recall's write: the last byte waits, any other goes through
 unfoldable pub fallOnWrite : Reu → BusAnswer
 fallOnWrite u = cond (lastByte (u .dma)) (granted Hold u) (granted Transfer u)
 
-unfoldable pub fall : Reu → List ℕ → Bool → Granted
-fall u s late =
-    cond (swapReads (u .dma)) (fallOnRead u, s)
-    (cond (reads (c64Access u)) (plain u false, s)
-    (cond (swapWrites (u .dma)) (fallOnSwapWrite u s late)
-    (cond (writes (c64Access u)) (fallOnWrite u, s) (plain u false, s))))
+unfoldable pub fall : Reu → Bool → BusAnswer
+fall u late =
+    cond (swapReads (u .dma)) (fallOnRead u)
+    (cond (reads (c64Access u)) (plain u false)
+    (cond (swapWrites (u .dma)) (fallOnSwapWrite u late)
+    (cond (writes (c64Access u)) (fallOnWrite u) (plain u false))))
 
 -- "then terminal pair, delay, and the fall rules"
-unfoldable pub decide : Reu → List ℕ → Bool → Bool → Bool → Granted
-decide u s high falling late =
-    cond (u .«terminal_swap_write») (granted Transfer (withTerminal u false), s)
-    (cond (eqb (u .«swap_read_delay») 0) (cond falling (fall u s late) (plain u high, s))
-    (granted (cond (eqb (u .«swap_read_delay») 1) Transfer Hold) (withDelay u (u .«swap_read_delay» - 1)), s))
+unfoldable pub decide : Reu → Bool → Bool → Bool → BusAnswer
+decide u high falling late =
+    cond (u .«terminal_swap_write») (granted Transfer (withTerminal u false))
+    (cond (eqb (u .«swap_read_delay») 0) (cond falling (fall u late) (plain u high))
+    (granted (cond (eqb (u .«swap_read_delay») 1) Transfer Hold) (withDelay u (u .«swap_read_delay» - 1))))
 
--- BA's level at PHI1 falls or rises against the cycle before; a late fall was announced by `ba_high` alone
+-- "a rise on a write phase with equal parity"
+abbrev pub resumes : Dma → ℕ → Bool
+resumes x cycle = swapWrites x && Bool·beq (runs (λ d. d .«read_clock_odd») x) (bit cycle 0)
+
+-- BA rises: the write is given up where it resumes, and then the cycle is decided
+unfoldable pub rise : Reu → Bool → ℕ → BusAnswer
+rise u late cycle =
+    cond (resumes (u .dma) cycle)
+    (let answer = decide (withDma u (readAgain (u .dma))) true false late in
+    grants (answer .action) (answer .reu) (restored (u .dma)))
+    (decide u true false late)
+
+-- BA's level at PHI1 rises or falls against the cycle before; a late fall was announced by `ba_high` alone
+unfoldable pub nextAction : Reu → Bool → Bool → ℕ → BusAnswer
+nextAction u high phi1 cycle =
+    let falling = u .«ba_was_high» && not phi1 in
+    let now = withHistory u phi1 (phi1 && not high) in
+    cond (not (u .«ba_was_high») && phi1) (rise now (u .«late_ba_fall») cycle)
+    (decide (repeated now falling) phi1 falling (u .«late_ba_fall»))
+
+-- the grant and the controller, with the storage
+abbrev pub Granted : Type 0
+Granted = BusAnswer × List ℕ
+
 unfoldable pub busAction : Reu → List ℕ → Bool → Bool → ℕ → Granted
 busAction u s high phi1 cycle =
-    let falling = u .«ba_was_high» && not phi1 in
-    let resume = resumed (withHistory u phi1 (phi1 && not high)) s (not (u .«ba_was_high») && phi1) cycle in
-    decide (repeated (resume .0) falling) (resume .1) phi1 falling (u .«late_ba_fall»)
+    (nextAction u high phi1 cycle, putStorage (nextAction u high phi1 cycle .put) s)
 
 -- "`cpu_ready_after_dma` is BA high or the release flag, and always clears the flag"
 abbrev pub cpuReadyAfterDma : Reu → Bool → FlagAnswer

@@ -14,4 +14,3 @@ pub mod TickDma
 pub mod Cycle
 pub mod Refusals
 pub mod Calls
-pub mod Inner

@@ -10,6 +10,9 @@ unfoldable pub use lib.ListN.{getD, set, length, replicate}
 pub use Rattle.controller.specs.declared.memory.C64Address.{C64Address}
 pub use Rattle.controller.specs.declared.memory.ExpansionAddress.{ExpansionAddress}
 pub use Rattle.controller.specs.declared.memory.Offset.{Offset}
+pub use Rattle.controller.specs.declared.memory.Seen.{Seen}
+pub use Rattle.controller.specs.declared.memory.Put.{Put}
+pub use Rattle.controller.specs.declared.memory.Put.the-variants.{Nothing, Bus, Storage}
 pub use Rattle.controller.specs.declared.dma.TransferType.{TransferType}
 pub use Rattle.controller.specs.declared.dma.TransferType.the-variants.{Store, Recall, Swap, Verify}
 pub use Rattle.controller.specs.declared.dma.SwapPhase.{SwapPhase}
@@ -26,5 +29,6 @@ pub use Rattle.controller.specs.declared.reu.Reu.{Reu}
 pub use Rattle.controller.specs.declared.reu.ReadAnswer.{ReadAnswer}
 pub use Rattle.controller.specs.declared.reu.BusAnswer.{BusAnswer}
 pub use Rattle.controller.specs.declared.reu.FlagAnswer.{FlagAnswer}
+pub use Rattle.controller.specs.declared.reu.TickAnswer.{TickAnswer}
 pub use Rattle.controller.specs.declared.reu.Answer.{Answer}
 pub use Rattle.controller.specs.declared.reu.Stepped.{Stepped}

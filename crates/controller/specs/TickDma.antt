@@ -1,11 +1,97 @@
--- `tick_dma`, one granted cycle of a transfer.
-use Rattle.controller.specs.Prelude.{ℕ, Bool, true, false, not, _&&_, _||_, cond, List, [], _∷_, eqb, set, Store, Recall, Swap, Verify, TransferType, SwapPhase, ReadC64, WriteC64, DmaState, Dma, Idle, Running, Reu, FlagAnswer}
+-- `tick_dma`, one granted cycle of a transfer. It sees the two bytes at the transfer's place, and writes at most one byte.
+use Rattle.controller.specs.Prelude.{ℕ, Bool, true, false, not, _&&_, _||_, cond, List, [], _∷_, eqb, set, Store, Recall, Swap, Verify, TransferType, SwapPhase, ReadC64, WriteC64, DmaState, Dma, Idle, Running, Seen, Put, Nothing, Bus, Storage, Reu, FlagAnswer, TickAnswer}
 use Rattle.controller.specs.Constants.{status, verifyError}
 use Rattle.controller.specs.Bytes.{bit, setBits}
 use Rattle.controller.specs.Reu.{reg, withRegs, withDma, withRelease, withRefresh, withRepeat, withPhase, withOdd, withLatch, withTail}
-use Rattle.controller.specs.Memory.{busByte, setBus, storageByte, setStorage}
+use Rattle.controller.specs.Memory.{seenAt, putBus, putStorage}
 use Rattle.controller.specs.Dma.{isType, moved}
 use Rattle.controller.specs.FinishDma.{publishLiveCounters, finishDma}
+
+-- what a tick answers, the controller after it, and what it writes
+abbrev pub ticks : Bool → Reu → Put → TickAnswer
+ticks flag u put = record { flag = flag; reu = u; put = put }
+
+-- a byte is done: the counters move and are shown. "Verify mismatch .. after the counters move, ends the command, unless it wasn't the last byte
+-- and remaining is now 1. Then one more tick compares the last byte". The release flag: the block ended, of a swap, and `ba_low` is 0
+unfoldable pub advance : Reu → DmaState → Bool → Bool → Put → TickAnswer
+advance u d error low put =
+    cond (error && (not (eqb (d .remaining) 1) && eqb (moved d .remaining) 1))
+    (ticks true (withDma (publishLiveCounters u (moved d)) (Running (withTail (moved d) true))) put)
+    (cond (eqb (d .remaining) 1 || error)
+    (ticks false
+    (finishDma
+    (withRelease (publishLiveCounters u (moved d)) (eqb (d .remaining) 1 && (isType (d .«transfer_type») Swap && not low)))
+    (moved d) (eqb (d .remaining) 1))
+    put)
+    (ticks true (withDma (publishLiveCounters u (moved d)) (Running (moved d))) put))
+
+-- a store: the C64's byte goes to the storage
+unfoldable pub tickStore : Reu → DmaState → Seen → Bool → TickAnswer
+tickStore u d b low = advance u d false low (Storage (d .«reu_addr») (b .bus))
+
+-- a recall: the storage's byte goes to the C64, or "repeats its latch for the second byte"
+abbrev pub recalled : Reu → DmaState → Seen → ℕ
+recalled u d b = cond (u .«recall_repeat» && not (d .«first_byte»)) (d .latch) (b .storage)
+
+unfoldable pub tickRecall : Reu → DmaState → Seen → Bool → TickAnswer
+tickRecall u d b low =
+    advance (withRepeat u (u .«recall_repeat» && d .«first_byte»)) (withLatch d (recalled u d b)) false low
+    (Bus (d .«c64_addr») (recalled u d b))
+
+-- a swap: its first half latches the storage's byte and puts the C64's there, its second half puts the latch to the C64
+unfoldable pub swapRead : Reu → DmaState → Seen → ℕ → TickAnswer
+swapRead u d b cycle =
+    ticks true (withDma u (Running (withPhase (withLatch (withOdd d (bit cycle 0)) (b .storage)) WriteC64)))
+    (Storage (d .«reu_addr») (b .bus))
+
+unfoldable pub swapWrite : Reu → DmaState → Bool → TickAnswer
+swapWrite u d low = advance u d false low (Bus (d .«c64_addr») (d .latch))
+
+unfoldable pub tickSwap : SwapPhase → Reu → DmaState → Seen → ℕ → Bool → TickAnswer
+tickSwap ReadC64 u d b cycle low = swapRead u d b cycle
+tickSwap WriteC64 u d b cycle low = swapWrite u d low
+
+-- "Verify mismatch sets bit 5"
+abbrev pub differs : Seen → Bool
+differs b = not (eqb (b .bus) (b .storage))
+
+abbrev pub withError : Reu → Bool → Reu
+withError u error = withRegs u (cond error (set (u .regs) status (setBits (verifyError ∷ []) (reg u status))) (u .regs))
+
+unfoldable pub tickVerify : Reu → DmaState → Seen → Bool → TickAnswer
+tickVerify u d b low = advance (withError u (differs b)) d (differs b) low Nothing
+
+unfoldable pub tickByType : TransferType → Reu → DmaState → Seen → ℕ → Bool → TickAnswer
+tickByType Store u d b cycle low = tickStore u d b low
+tickByType Recall u d b cycle low = tickRecall u d b low
+tickByType Swap u d b cycle low = tickSwap (d .«swap_phase») u d b cycle low
+tickByType Verify u d b cycle low = tickVerify u d b low
+
+-- a refresh reads the C64's byte once more into the storage, and takes the parity anew
+unfoldable pub tickRefresh : Reu → DmaState → Seen → ℕ → TickAnswer
+tickRefresh u d b cycle =
+    ticks true (withDma (withRefresh u false) (Running (withOdd d (bit cycle 0)))) (Storage (d .«reu_addr») (b .bus))
+
+-- the tail "sets bit 6 exactly if equal, and moves no counter"
+unfoldable pub tickTail : Reu → DmaState → Seen → TickAnswer
+tickTail u d b = ticks false (finishDma u d (not (differs b))) Nothing
+
+unfoldable pub tickRunning : Reu → DmaState → Seen → ℕ → Bool → TickAnswer
+tickRunning u d b cycle low =
+    cond (u .«swap_refresh») (tickRefresh u d b cycle)
+    (cond (d .«verify_tail») (tickTail u d b) (tickByType (d .«transfer_type») u d b cycle low))
+
+unfoldable pub tickOf : Dma → Reu → Seen → ℕ → Bool → TickAnswer
+tickOf Idle u b cycle low = ticks false u Nothing
+tickOf (Running d) u b cycle low =
+    cond (u .attached) (tickRunning u d b cycle low) (ticks false (withDma u Idle) Nothing)
+
+-- ---- on a bus and a storage
+
+-- the bytes that a running transfer sees; none counts where there is no transfer
+abbrev pub seenBy : Dma → List ℕ → List ℕ → Seen
+seenBy Idle m s = record { bus = 0; storage = 0 }
+seenBy (Running d) m s = seenAt (d .«c64_addr») (d .«reu_addr») m s
 
 -- the answer and the controller, the bus, the storage
 abbrev pub Ticked : Type 0
@@ -14,84 +100,8 @@ Ticked = FlagAnswer × List ℕ × List ℕ
 abbrev pub ticked : Bool → Reu → FlagAnswer
 ticked flag u = record { flag = flag; reu = u }
 
--- a byte is done: the counters move and are shown. "Verify mismatch .. after the counters move, ends the command, unless it wasn't the last byte
--- and remaining is now 1. Then one more tick compares the last byte". The release flag: the block ended, of a swap, and `ba_low` is 0
-unfoldable pub advance : Reu → DmaState → Bool → Bool → FlagAnswer
-advance u d error low =
-    cond (error && (not (eqb (d .remaining) 1) && eqb (moved d .remaining) 1))
-    (ticked true (withDma (publishLiveCounters u (moved d)) (Running (withTail (moved d) true))))
-    (cond (eqb (d .remaining) 1 || error)
-    (ticked false
-    (finishDma
-    (withRelease (publishLiveCounters u (moved d)) (eqb (d .remaining) 1 && (isType (d .«transfer_type») Swap && not low)))
-    (moved d) (eqb (d .remaining) 1)))
-    (ticked true (withDma (publishLiveCounters u (moved d)) (Running (moved d)))))
-
-unfoldable pub tickStore : Reu → DmaState → List ℕ → List ℕ → Bool → Ticked
-tickStore u d m s low = (advance u d false low, m, setStorage s (d .«reu_addr») (busByte m (d .«c64_addr»)))
-
--- "repeats its latch for the second byte"
-abbrev pub recalled : Reu → DmaState → List ℕ → ℕ
-recalled u d s = cond (u .«recall_repeat» && not (d .«first_byte»)) (d .latch) (storageByte s (d .«reu_addr»))
-
-unfoldable pub tickRecall : Reu → DmaState → List ℕ → List ℕ → Bool → Ticked
-tickRecall u d m s low = (
-  advance (withRepeat u (u .«recall_repeat» && d .«first_byte»)) (withLatch d (recalled u d s)) false low,
-  setBus m (d .«c64_addr») (recalled u d s),
-  s,
-)
-
-unfoldable pub swapRead : Reu → DmaState → List ℕ → List ℕ → ℕ → Ticked
-swapRead u d m s cycle = (
-  ticked true
-      (withDma u (Running (withPhase (withLatch (withOdd d (bit cycle 0)) (storageByte s (d .«reu_addr»))) WriteC64))),
-  m,
-  setStorage s (d .«reu_addr») (busByte m (d .«c64_addr»)),
-)
-
-unfoldable pub swapWrite : Reu → DmaState → List ℕ → List ℕ → Bool → Ticked
-swapWrite u d m s low = (advance u d false low, setBus m (d .«c64_addr») (d .latch), s)
-
-unfoldable pub tickSwap : SwapPhase → Reu → DmaState → List ℕ → List ℕ → ℕ → Bool → Ticked
-tickSwap ReadC64 u d m s cycle low = swapRead u d m s cycle
-tickSwap WriteC64 u d m s cycle low = swapWrite u d m s low
-
--- "Verify mismatch sets bit 5"
-abbrev pub differs : DmaState → List ℕ → List ℕ → Bool
-differs d m s = not (eqb (busByte m (d .«c64_addr»)) (storageByte s (d .«reu_addr»)))
-
-abbrev pub withError : Reu → Bool → Reu
-withError u error = withRegs u (cond error (set (u .regs) status (setBits (verifyError ∷ []) (reg u status))) (u .regs))
-
-unfoldable pub tickVerify : Reu → DmaState → List ℕ → List ℕ → Bool → Ticked
-tickVerify u d m s low = (advance (withError u (differs d m s)) d (differs d m s) low, m, s)
-
-unfoldable pub tickByType : TransferType → Reu → DmaState → List ℕ → List ℕ → ℕ → Bool → Ticked
-tickByType Store u d m s cycle low = tickStore u d m s low
-tickByType Recall u d m s cycle low = tickRecall u d m s low
-tickByType Swap u d m s cycle low = tickSwap (d .«swap_phase») u d m s cycle low
-tickByType Verify u d m s cycle low = tickVerify u d m s low
-
--- a refresh reads the C64's byte once more into the storage, and takes the parity anew
-unfoldable pub tickRefresh : Reu → DmaState → List ℕ → List ℕ → ℕ → Ticked
-tickRefresh u d m s cycle = (
-  ticked true (withDma (withRefresh u false) (Running (withOdd d (bit cycle 0)))),
-  m,
-  setStorage s (d .«reu_addr») (busByte m (d .«c64_addr»)),
-)
-
--- the tail "sets bit 6 exactly if equal, and moves no counter"
-unfoldable pub tickTail : Reu → DmaState → List ℕ → List ℕ → Ticked
-tickTail u d m s = (ticked false (finishDma u d (not (differs d m s))), m, s)
-
-unfoldable pub tickRunning : Reu → DmaState → List ℕ → List ℕ → ℕ → Bool → Ticked
-tickRunning u d m s cycle low =
-    cond (u .«swap_refresh») (tickRefresh u d m s cycle)
-    (cond (d .«verify_tail») (tickTail u d m s) (tickByType (d .«transfer_type») u d m s cycle low))
-
-unfoldable pub tickOf : Dma → Reu → List ℕ → List ℕ → ℕ → Bool → Ticked
-tickOf Idle u m s cycle low = (ticked false u, m, s)
-tickOf (Running d) u m s cycle low = cond (u .attached) (tickRunning u d m s cycle low) (ticked false (withDma u Idle), m, s)
+abbrev pub laid : TickAnswer → List ℕ → List ℕ → Ticked
+laid t m s = (ticked (t .flag) (t .reu), putBus (t .put) m, putStorage (t .put) s)
 
 unfoldable pub tickDma : Reu → List ℕ → List ℕ → ℕ → Bool → Ticked
-tickDma u m s cycle low = tickOf (u .dma) u m s cycle low
+tickDma u m s cycle low = laid (tickOf (u .dma) u (seenBy (u .dma) m s) cycle low) m s

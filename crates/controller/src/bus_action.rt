@@ -1,8 +1,6 @@
 // The grant of a cycle: BA's edges, the terminal pair, the delay, then the plain rule.
 ghost use mathlib.Core.Path.{_≡_};
-ghost use lib.ListN.{length};
-ghost use Rattle.controller.specs.Constants.{storageSize};
-ghost use Rattle.controller.specs.BusAction.{busAction, cpuReadyAfterDma, decide, fall, fallOnRead, fallOnSwapWrite, fallOnWrite, giveUp, plain, recallStarts, repeated, resumed, swapReads, swapWrites};
+ghost use Rattle.controller.specs.BusAction.{cpuReadyAfterDma, decide, fall, fallOnRead, fallOnSwapWrite, fallOnWrite, granted, givenUp, nextAction, plain, readAgain, recallStarts, repeated, restored, resumes, rise, swapReads, swapWrites};
 ghost use Rattle.controller.specs.Dma.{runs};
 use crate::constants::COMMAND;
 use crate::constants::COMMAND_FF00_DISABLE;
@@ -10,7 +8,7 @@ use crate::constants::LONGEST_READ_DELAY;
 use crate::dma::Dma;
 use crate::dma::SwapPhase;
 use crate::dma::TransferType;
-use crate::memory::set_storage;
+use crate::memory::Put;
 use crate::reu::BusAnswer;
 use crate::reu::FlagAnswer;
 use crate::reu::Reu;
@@ -67,46 +65,59 @@ impl Dma {
             Dma::Running(d) => d.read_clock_odd,
         }
     }
-}
 
-impl Reu {
-    fn plain(self, ba_high: bool) -> BusAnswer
-        ensures { λ r. ⌜ r ≡ plain self «ba_high» ⌝ }
+    // BA rises on a write phase whose read had the same parity.
+    fn resumes(self, cycle: u64) -> bool
+        ensures { λ r. ⌜ r ≡ resumes self cycle ⌝ }
     {
-        let dma = self.dma;
-        let action = action_for_cycle(dma.is_active(), ba_high);
-        BusAnswer { action, reu: self }
+        let odd = cycle & 1 != 0;
+        self.swap_writes() & (self.odd_read() == odd)
     }
 
-    // A swap's write half is given up: the storage has its byte again, and the read half comes next.
-    fn give_up(self, storage: &mut [u8]) -> Reu
-        requires { ⌜ length (now storage) ≡ storageSize ⌝ }
-        ensures { λ r. ⌜ (r, now (storage .exit)) ≡ giveUp self (now (storage .entry)) ⌝ }
+    // A swap's write half is given up: the read half comes next, and the storage has its byte again.
+    fn read_again(self) -> Dma
+        ensures { λ r. ⌜ r ≡ readAgain self ⌝ }
     {
-        let dma = self.dma;
-        match dma {
+        match self {
             Dma::Idle => self,
             Dma::Running(d) => {
-                let addr = d.reu_addr;
-                set_storage(storage, addr, d.latch);
                 let phase = SwapPhase::ReadC64;
-                self.running(d.with_phase(phase))
+                Dma::Running(d.with_phase(phase))
             }
         }
     }
 
-    // BA rises on a write phase whose read had the same parity: the byte is read again.
-    fn resume(self, storage: &mut [u8], rising: bool, cycle: u64) -> Reu
-        requires { ⌜ length (now storage) ≡ storageSize ⌝ }
-        ensures { λ r. ⌜ (r, now (storage .exit)) ≡ resumed self (now (storage .entry)) rising cycle ⌝ }
+    fn restored(self) -> Put
+        ensures { λ r. ⌜ r ≡ restored self ⌝ }
+    {
+        match self {
+            Dma::Idle => Put::Nothing,
+            Dma::Running(d) => {
+                let addr = d.reu_addr;
+                Put::Storage(addr, d.latch)
+            }
+        }
+    }
+}
+
+impl Reu {
+    // A grant that writes nothing.
+    fn granted(self, action: ReuBusAction) -> BusAnswer
+        ensures { λ r. ⌜ r ≡ granted action self ⌝ }
+    {
+        let put = Put::Nothing;
+        BusAnswer {
+            action,
+            reu: self,
+            put,
+        }
+    }
+
+    fn plain(self, ba_high: bool) -> BusAnswer
+        ensures { λ r. ⌜ r ≡ plain self «ba_high» ⌝ }
     {
         let dma = self.dma;
-        let odd = cycle & 1 != 0;
-        if rising & (dma.swap_writes() & (dma.odd_read() == odd)) {
-            self.give_up(storage)
-        } else {
-            self
-        }
+        self.granted(action_for_cycle(dma.is_active(), ba_high))
     }
 
     // An immediate recall whose first byte meets a fall repeats its latch.
@@ -125,33 +136,32 @@ impl Reu {
         ensures { λ r. ⌜ r ≡ fallOnRead self ⌝ }
     {
         let dma = self.dma;
+        let hold = ReuBusAction::Hold;
         if dma.first_byte() {
-            let action = ReuBusAction::Hold;
-            return BusAnswer { action, reu: self };
+            return self.granted(hold);
         }
         if dma.last_byte() {
             self.terminal_swap_write = true;
-            let action = ReuBusAction::Transfer;
-            return BusAnswer { action, reu: self };
+            let transfer = ReuBusAction::Transfer;
+            return self.granted(transfer);
         }
         self.swap_read_delay = LONGEST_READ_DELAY;
-        let action = ReuBusAction::Hold;
-        BusAnswer { action, reu: self }
+        self.granted(hold)
     }
 
-    fn fall_on_swap_write(self, storage: &mut [u8], late: bool) -> BusAnswer
-        requires { ⌜ length (now storage) ≡ storageSize ⌝ }
-        ensures { λ r. ⌜ (r, now (storage .exit)) ≡ fallOnSwapWrite self (now (storage .entry)) late ⌝ }
+    fn fall_on_swap_write(mut self, late: bool) -> BusAnswer
+        ensures { λ r. ⌜ r ≡ fallOnSwapWrite self late ⌝ }
     {
         let action = ReuBusAction::Hold;
         if late {
-            let mut reu = self;
-            reu.swap_read_delay = 1;
-            reu.swap_refresh = true;
-            return BusAnswer { action, reu };
+            self.swap_read_delay = 1;
+            self.swap_refresh = true;
+            return self.granted(action);
         }
-        let reu = self.give_up(storage);
-        BusAnswer { action, reu }
+        let dma = self.dma;
+        let put = dma.restored();
+        let reu = self.with_dma(dma.read_again());
+        BusAnswer { action, reu, put }
     }
 
     fn fall_on_write(self) -> BusAnswer
@@ -159,18 +169,16 @@ impl Reu {
     {
         let dma = self.dma;
         if dma.last_byte() {
-            let action = ReuBusAction::Hold;
-            BusAnswer { action, reu: self }
-        } else {
-            let action = ReuBusAction::Transfer;
-            BusAnswer { action, reu: self }
+            let hold = ReuBusAction::Hold;
+            return self.granted(hold);
         }
+        let transfer = ReuBusAction::Transfer;
+        self.granted(transfer)
     }
 
     // BA falls.
-    fn fall(self, storage: &mut [u8], late: bool) -> BusAnswer
-        requires { ⌜ length (now storage) ≡ storageSize ⌝ }
-        ensures { λ r. ⌜ (r, now (storage .exit)) ≡ fall self (now (storage .entry)) late ⌝ }
+    fn fall(self, late: bool) -> BusAnswer
+        ensures { λ r. ⌜ r ≡ fall self late ⌝ }
     {
         let dma = self.dma;
         if dma.swap_reads() {
@@ -181,7 +189,7 @@ impl Reu {
             return self.plain(false);
         }
         if dma.swap_writes() {
-            return self.fall_on_swap_write(storage, late);
+            return self.fall_on_swap_write(late);
         }
         if access.writes() {
             return self.fall_on_write();
@@ -189,55 +197,57 @@ impl Reu {
         self.plain(false)
     }
 
-    fn decide(self, storage: &mut [u8], ba_high: bool, falling: bool, late: bool) -> BusAnswer
-        requires { ⌜ length (now storage) ≡ storageSize ⌝ }
-        ensures { λ r. ⌜ (r, now (storage .exit)) ≡ decide self (now (storage .entry)) «ba_high» falling late ⌝ }
+    // The terminal pair, the delay, then the fall or the plain rule.
+    fn decide(mut self, ba_high: bool, falling: bool, late: bool) -> BusAnswer
+        ensures { λ r. ⌜ r ≡ decide self «ba_high» falling late ⌝ }
     {
-        let mut reu = self;
-        if reu.terminal_swap_write {
-            reu.terminal_swap_write = false;
-            let action = ReuBusAction::Transfer;
-            return BusAnswer { action, reu };
+        let transfer = ReuBusAction::Transfer;
+        if self.terminal_swap_write {
+            self.terminal_swap_write = false;
+            return self.granted(transfer);
         }
-        let delay = reu.swap_read_delay;
+        let delay = self.swap_read_delay;
         if delay == 0 {
             if falling {
-                return reu.fall(storage, late);
+                return self.fall(late);
             }
-            return reu.plain(ba_high);
+            return self.plain(ba_high);
         }
-        reu.swap_read_delay = delay - 1;
+        self.swap_read_delay = delay - 1;
         if delay == 1 {
-            let action = ReuBusAction::Transfer;
-            return BusAnswer { action, reu };
+            return self.granted(transfer);
         }
-        let action = ReuBusAction::Hold;
-        BusAnswer { action, reu }
+        let hold = ReuBusAction::Hold;
+        self.granted(hold)
     }
 
-    pub(crate) fn next_action(
-        self,
-        storage: &mut [u8],
-        ba_high: bool,
-        ba_high_phi1: bool,
-        cycle: u64,
-    ) -> BusAnswer
-        requires { ⌜ length (now storage) ≡ storageSize ⌝ }
-        ensures { λ r. ⌜ (r, now (storage .exit)) ≡ busAction self (now (storage .entry)) «ba_high» «ba_high_phi1» cycle ⌝ }
+    // BA rises.
+    fn rise(self, late: bool, cycle: u64) -> BusAnswer
+        ensures { λ r. ⌜ r ≡ rise self late cycle ⌝ }
+    {
+        let dma = self.dma;
+        if dma.resumes(cycle) {
+            let put = dma.restored();
+            let out = self.with_dma(dma.read_again()).decide(true, false, late);
+            let action = out.action;
+            let reu = out.reu;
+            return BusAnswer { action, reu, put };
+        }
+        self.decide(true, false, late)
+    }
+
+    pub(crate) fn next_action(self, ba_high: bool, ba_high_phi1: bool, cycle: u64) -> BusAnswer
+        ensures { λ r. ⌜ r ≡ nextAction self «ba_high» «ba_high_phi1» cycle ⌝ }
     {
         let falling = self.ba_was_high & !ba_high_phi1;
-        let rising = !self.ba_was_high & ba_high_phi1;
         let late = self.late_ba_fall;
         let mut reu = self;
         reu.late_ba_fall = ba_high_phi1 & !ba_high;
         reu.ba_was_high = ba_high_phi1;
-        // Most cycles have no edge.
-        if rising | falling {
-            let resumed = reu.resume(storage, rising, cycle);
-            let repeated = resumed.repeat(falling);
-            return repeated.decide(storage, ba_high_phi1, falling, late);
+        if !self.ba_was_high & ba_high_phi1 {
+            return reu.rise(late, cycle);
         }
-        reu.decide(storage, ba_high_phi1, falling, late)
+        reu.repeat(falling).decide(ba_high_phi1, falling, late)
     }
 
     // The release is used up, whatever BA is.

@@ -2,7 +2,6 @@
 ghost use mathlib.Core.Path.{_≡_};
 ghost use Rattle.controller.specs.Calls.{stepCall};
 ghost use Rattle.controller.specs.Cycle.{cycleBy, runReuCycle};
-ghost use Rattle.controller.specs.Inner.{Lent};
 use crate::reu::FlagAnswer;
 use crate::reu::Reu;
 use crate::reu::Stepped;
@@ -17,7 +16,6 @@ impl Reu {
         cycle: u64,
         ba_low: bool,
     ) -> FlagAnswer
-        requires { ⌜ Lent (self .dma) (now bus) (now storage) ⌝ }
         ensures { λ r. ⌜ (r, now (bus .exit), now (storage .exit)) ≡ cycleBy action self (now (bus .entry)) (now (storage .entry)) cycle «ba_low» ⌝ }
     {
         match action {
@@ -47,12 +45,13 @@ impl Reu {
         cycle: u64,
         ba_low: bool,
     ) -> FlagAnswer
-        requires { ⌜ Lent (self .dma) (now bus) (now storage) ⌝ }
         ensures { λ r. ⌜ (r, now (bus .exit), now (storage .exit)) ≡ runReuCycle self (now (bus .entry)) (now (storage .entry)) «ba_high» «ba_high_phi1» cycle «ba_low» ⌝ }
     {
-        let answer = self.next_action(storage, ba_high, ba_high_phi1, cycle);
+        let answer = self.next_action(ba_high, ba_high_phi1, cycle);
         let action = answer.action;
+        let put = answer.put;
         let reu = answer.reu;
+        put.to_storage(storage);
         reu.cycle_by(action, bus, storage, cycle, ba_low)
     }
 }

@@ -1,14 +1,16 @@
 // The transfer state, and the step that completes a byte.
 ghost use mathlib.Core.Path.{_≡_};
 ghost use mathlib.Core.Bool.{cond, true};
-ghost use Prim.Native.Nat.{_-_, _≤_};
+ghost use Prim.Native.Nat.{_-_};
 ghost use lib.Dec.{eqb};
 ghost use Rattle.controller.specs.Reu.{withPhase, withTail};
 ghost use Rattle.controller.specs.Dma.{active, completeByte, firstByte, isType, isWritePhase, lastByte, typeNumber, typeOf};
-ghost use Rattle.controller.specs.Inner.{InRange};
+ghost use Rattle.controller.specs.TickDma.{seenBy};
 use crate::constants::COMMAND_TRANSFER_TYPE_MASK;
 use crate::memory::C64Address;
 use crate::memory::ExpansionAddress;
+use crate::memory::Seen;
+use crate::memory::seen_at;
 
 pub enum TransferType {
     Store,
@@ -112,6 +114,20 @@ impl Dma {
         }
     }
 
+    // The bytes that a tick sees.
+    pub(crate) fn seen(self, bus: &[u8], storage: &[u8]) -> Seen
+        ensures { λ r. ⌜ r ≡ seenBy self (now (bus .entry)) (now (storage .entry)) ⌝ }
+    {
+        match self {
+            Dma::Idle => Seen { bus: 0, storage: 0 },
+            Dma::Running(d) => {
+                let c64 = d.c64_addr;
+                let reu = d.reu_addr;
+                seen_at(c64, reu, bus, storage)
+            }
+        }
+    }
+
     pub(crate) fn last_byte(self) -> bool
         ensures { λ r. ⌜ r ≡ lastByte self ⌝ }
     {
@@ -122,12 +138,11 @@ impl Dma {
     }
 }
 
-// The last byte leaves the length at 1.
+// The last byte leaves the length at 1; 0 is never held.
 fn left_after(remaining: u32) -> u32
-    requires { ⌜ 1 ≤ remaining ⌝ }
     ensures { λ r. ⌜ r ≡ cond (eqb remaining 1) remaining (remaining - 1) ⌝ }
 {
-    if remaining == 1 {
+    if remaining <= 1 {
         remaining
     } else {
         remaining - 1
@@ -137,7 +152,6 @@ fn left_after(remaining: u32) -> u32
 impl DmaState {
     // The only place where the counters move.
     pub(crate) fn complete_byte(self) -> Completed
-        requires { ⌜ InRange self ⌝ }
         ensures { λ r. ⌜ r ≡ completeByte self ⌝ }
     {
         let transfer_type = self.transfer_type;

@@ -1,10 +1,7 @@
 // The addresses, and the bytes of the bus and of the expansion's storage.
 ghost use mathlib.Core.Path.{_≡_};
 ghost use mathlib.Core.Bool.{cond};
-ghost use Prim.Native.Nat.{_<_};
-ghost use lib.ListN.{length};
-ghost use Rattle.controller.specs.Constants.{busSize, expansionLimit, storageSize};
-ghost use Rattle.controller.specs.Memory.{busByte, nextC64, nextExp, physicalOffset, setBus, setStorage, storageByte, zeros};
+ghost use Rattle.controller.specs.Memory.{busByte, nextC64, nextExp, physicalOffset, putBus, putStorage, seenAt, storageByte, zeros};
 use crate::constants::EXPANSION_ADDRESS_LIMIT;
 
 // A C64 address, 16 bits.
@@ -41,49 +38,86 @@ impl ExpansionAddress {
 
     // The next address, unless it is fixed.
     pub(crate) fn step(self, fixed: bool) -> ExpansionAddress
-        requires { ⌜ self .0 < expansionLimit ⌝ }
         ensures { λ r. ⌜ r ≡ cond fixed self (nextExp self) ⌝ }
     {
         if fixed {
             self
         } else {
-            ExpansionAddress((self.0 + 1) % EXPANSION_ADDRESS_LIMIT)
+            ExpansionAddress(std::num::wrapping_add_u32(self.0, 1) % EXPANSION_ADDRESS_LIMIT)
         }
     }
 }
 
-pub(crate) fn bus_byte(bus: &[u8], addr: C64Address) -> u8
-    requires { ⌜ length (now bus) ≡ busSize ⌝ }
+// The bus and the storage are read and written here alone. A place outside of them, which no tested length leaves, reads 0 and is not written.
+
+fn bus_byte(bus: &[u8], addr: C64Address) -> u8
     ensures { λ r. ⌜ r ≡ busByte (now (bus .entry)) addr ⌝ }
 {
     let at = addr.0 as usize;
-    bus[at]
+    if at < bus.len() { bus[at] } else { 0 }
 }
 
-pub(crate) fn set_bus(bus: &mut [u8], addr: C64Address, value: u8)
-    requires { ⌜ length (now bus) ≡ busSize ⌝ }
-    ensures { λ _. ⌜ now (bus .exit) ≡ setBus (now (bus .entry)) addr value ⌝ }
-{
-    let at = addr.0 as usize;
-    bus[at] = value;
-}
-
-pub(crate) fn storage_byte(storage: &[u8], addr: ExpansionAddress) -> u8
-    requires { ⌜ length (now storage) ≡ storageSize ⌝ }
+fn storage_byte(storage: &[u8], addr: ExpansionAddress) -> u8
     ensures { λ r. ⌜ r ≡ storageByte (now (storage .entry)) addr ⌝ }
 {
     let offset = addr.physical_offset();
     let at = offset.0 as usize;
-    storage[at]
+    if at < storage.len() { storage[at] } else { 0 }
 }
 
-pub(crate) fn set_storage(storage: &mut [u8], addr: ExpansionAddress, value: u8)
-    requires { ⌜ length (now storage) ≡ storageSize ⌝ }
-    ensures { λ _. ⌜ now (storage .exit) ≡ setStorage (now (storage .entry)) addr value ⌝ }
+// The two bytes at a transfer's place.
+pub struct Seen {
+    pub bus: u8,
+    pub storage: u8,
+}
+
+pub(crate) fn seen_at(c64: C64Address, reu: ExpansionAddress, bus: &[u8], storage: &[u8]) -> Seen
+    ensures { λ r. ⌜ r ≡ seenAt c64 reu (now (bus .entry)) (now (storage .entry)) ⌝ }
 {
-    let offset = addr.physical_offset();
-    let at = offset.0 as usize;
-    storage[at] = value;
+    Seen {
+        bus: bus_byte(bus, c64),
+        storage: storage_byte(storage, reu),
+    }
+}
+
+// What a grant or a tick writes: at most one byte.
+pub enum Put {
+    Nothing,
+    Bus(C64Address, u8),
+    Storage(ExpansionAddress, u8),
+}
+
+impl Put {
+    pub(crate) fn to_bus(self, bus: &mut [u8])
+        ensures { λ _. ⌜ now (bus .exit) ≡ putBus self (now (bus .entry)) ⌝ }
+    {
+        match self {
+            Put::Nothing => {}
+            Put::Bus(addr, value) => {
+                let at = addr.0 as usize;
+                if at < bus.len() {
+                    bus[at] = value;
+                }
+            }
+            Put::Storage(_, _) => {}
+        }
+    }
+
+    pub(crate) fn to_storage(self, storage: &mut [u8])
+        ensures { λ _. ⌜ now (storage .exit) ≡ putStorage self (now (storage .entry)) ⌝ }
+    {
+        match self {
+            Put::Nothing => {}
+            Put::Bus(_, _) => {}
+            Put::Storage(addr, value) => {
+                let offset = addr.physical_offset();
+                let at = offset.0 as usize;
+                if at < storage.len() {
+                    storage[at] = value;
+                }
+            }
+        }
+    }
 }
 
 // Every byte of the storage becomes 0: for a host too, that begins anew.

@@ -14,6 +14,7 @@ use crate::constants::REGISTER_COUNT;
 use crate::constants::REU_1764_CAPACITY_BYTES;
 use crate::constants::STATUS_VERSION;
 use crate::dma::Dma;
+use crate::memory::Put;
 use crate::memory::clear;
 use crate::timing::ReuBusAction;
 use crate::timing::ReuC64Access;
@@ -44,16 +45,24 @@ pub struct ReadAnswer {
     pub reu: Reu,
 }
 
-// A grant, and the controller after it.
+// A grant, the controller after it, and what is written.
 pub struct BusAnswer {
     pub action: ReuBusAction,
     pub reu: Reu,
+    pub put: Put,
 }
 
 // A truth value, and the controller after the call.
 pub struct FlagAnswer {
     pub flag: bool,
     pub reu: Reu,
+}
+
+// What a tick answers: whether the command goes on, the controller after it, and what is written.
+pub struct TickAnswer {
+    pub flag: bool,
+    pub reu: Reu,
+    pub put: Put,
 }
 
 // What a public call answers: the refusal number, 0 if it is accepted, the value, and the controller after it.
@@ -343,9 +352,11 @@ impl Reu {
         if refusal != ACCEPTED {
             return self.refused(refusal);
         }
-        let out = self.next_action(storage, ba_high, ba_high_phi1, cycle);
+        let out = self.next_action(ba_high, ba_high_phi1, cycle);
+        let put = out.put;
         let reu = out.reu;
         let action = out.action;
+        put.to_storage(storage);
         reu.answered(action.number())
     }
 

@@ -1,42 +1,23 @@
-// One granted cycle of a transfer.
+// One granted cycle of a transfer. A tick sees the two bytes at the transfer's place, and says what it writes.
 ghost use mathlib.Core.Path.{_≡_};
-ghost use mathlib.Core.Bool.{cond};
-ghost use lib.ListN.{length};
-ghost use Rattle.controller.specs.Constants.{storageSize};
-ghost use Rattle.controller.specs.Memory.{storageByte};
-ghost use Rattle.controller.specs.TickDma.{advance, swapRead, swapWrite, tickByType, tickDma, tickOf, tickRecall, tickRefresh, tickRunning, tickStore, tickSwap, tickTail, tickVerify, withError};
-ghost use Rattle.controller.specs.Inner.{Lent, Ready, InRange};
+ghost use Rattle.controller.specs.TickDma.{advance, recalled, swapRead, swapWrite, tickByType, tickDma, tickOf, tickRecall, tickRefresh, tickRunning, tickStore, tickSwap, tickTail, tickVerify, withError, ticks};
+ghost use mathlib.Core.Bool.{false};
 use crate::constants::STATUS;
 use crate::constants::STATUS_VERIFY_ERROR;
 use crate::dma::Dma;
 use crate::dma::DmaState;
 use crate::dma::SwapPhase;
 use crate::dma::TransferType;
-use crate::memory::ExpansionAddress;
-use crate::memory::bus_byte;
-use crate::memory::set_bus;
-use crate::memory::set_storage;
-use crate::memory::storage_byte;
+use crate::memory::Put;
+use crate::memory::Seen;
 use crate::reu::FlagAnswer;
 use crate::reu::Reu;
-
-// A repeated recall takes the latch.
-fn recall_byte(repeat: bool, latch: u8, storage: &[u8], addr: ExpansionAddress) -> u8
-    requires { ⌜ length (now storage) ≡ storageSize ⌝ }
-    ensures { λ r. ⌜ r ≡ cond repeat latch (storageByte (now (storage .entry)) addr) ⌝ }
-{
-    if repeat {
-        latch
-    } else {
-        storage_byte(storage, addr)
-    }
-}
+use crate::reu::TickAnswer;
 
 impl Reu {
-    // A byte is done: the counters move and are shown.
-    fn advance(self, d: DmaState, error: bool, ba_low: bool) -> FlagAnswer
-        requires { ⌜ InRange d ⌝ }
-        ensures { λ r. ⌜ r ≡ advance self d error «ba_low» ⌝ }
+    // A byte is done, with what was written for it: the counters move and are shown.
+    fn advance(self, d: DmaState, error: bool, ba_low: bool, put: Put) -> TickAnswer
+        ensures { λ r. ⌜ r ≡ advance self d error «ba_low» put ⌝ }
     {
         let kind = d.transfer_type;
         let swap = TransferType::Swap;
@@ -48,85 +29,100 @@ impl Reu {
         let shown = self.publish_live_counters(next);
         if error & (!done & (left == 1)) {
             let reu = shown.running(next.with_tail());
-            return FlagAnswer { flag: true, reu };
+            return TickAnswer {
+                flag: true,
+                reu,
+                put,
+            };
         }
         if done | error {
             let mut last = shown;
             last.swap_release_pending = done & (swaps & !ba_low);
             let reu = last.finish_dma(next, done);
-            return FlagAnswer { flag: false, reu };
+            return TickAnswer {
+                flag: false,
+                reu,
+                put,
+            };
         }
         let reu = shown.running(next);
-        FlagAnswer { flag: true, reu }
+        TickAnswer {
+            flag: true,
+            reu,
+            put,
+        }
     }
 
-    fn tick_store(self, d: DmaState, bus: &[u8], storage: &mut [u8], ba_low: bool) -> FlagAnswer
-        requires { ⌜ Ready d (now bus) (now storage) ⌝ }
-        ensures { λ r. ⌜ (r, now (bus .entry), now (storage .exit)) ≡ tickStore self d (now (bus .entry)) (now (storage .entry)) «ba_low» ⌝ }
+    fn tick_store(self, d: DmaState, seen: Seen, ba_low: bool) -> TickAnswer
+        ensures { λ r. ⌜ r ≡ tickStore self d seen «ba_low» ⌝ }
     {
-        let c64 = d.c64_addr;
         let addr = d.reu_addr;
-        let value = bus_byte(bus, c64);
-        set_storage(storage, addr, value);
-        self.advance(d, false, ba_low)
+        let put = Put::Storage(addr, seen.bus);
+        self.advance(d, false, ba_low, put)
     }
 
-    fn tick_recall(self, d: DmaState, bus: &mut [u8], storage: &[u8], ba_low: bool) -> FlagAnswer
-        requires { ⌜ Ready d (now bus) (now storage) ⌝ }
-        ensures { λ r. ⌜ (r, now (bus .exit), now (storage .entry)) ≡ tickRecall self d (now (bus .entry)) (now (storage .entry)) «ba_low» ⌝ }
+    // A repeated recall takes the latch.
+    fn recalled(self, d: DmaState, seen: Seen) -> u8
+        ensures { λ r. ⌜ r ≡ recalled self d seen ⌝ }
     {
-        let c64 = d.c64_addr;
-        let addr = d.reu_addr;
-        let repeat = self.recall_repeat & !d.first_byte;
-        let value = recall_byte(repeat, d.latch, storage, addr);
-        set_bus(bus, c64, value);
+        if self.recall_repeat & !d.first_byte {
+            d.latch
+        } else {
+            seen.storage
+        }
+    }
+
+    fn tick_recall(self, d: DmaState, seen: Seen, ba_low: bool) -> TickAnswer
+        ensures { λ r. ⌜ r ≡ tickRecall self d seen «ba_low» ⌝ }
+    {
+        let addr = d.c64_addr;
+        let value = self.recalled(d, seen);
+        let put = Put::Bus(addr, value);
         let mut reu = self;
         reu.recall_repeat = self.recall_repeat & d.first_byte;
         let mut next = d;
         next.latch = value;
-        reu.advance(next, false, ba_low)
+        reu.advance(next, false, ba_low, put)
     }
 
-    fn swap_read(self, d: DmaState, bus: &[u8], storage: &mut [u8], cycle: u64) -> FlagAnswer
-        requires { ⌜ Ready d (now bus) (now storage) ⌝ }
-        ensures { λ r. ⌜ (r, now (bus .entry), now (storage .exit)) ≡ swapRead self d (now (bus .entry)) (now (storage .entry)) cycle ⌝ }
+    fn swap_read(self, d: DmaState, seen: Seen, cycle: u64) -> TickAnswer
+        ensures { λ r. ⌜ r ≡ swapRead self d seen cycle ⌝ }
     {
-        let c64 = d.c64_addr;
         let addr = d.reu_addr;
         let phase = SwapPhase::WriteC64;
         let mut next = d.with_phase(phase);
         next.read_clock_odd = cycle & 1 != 0;
-        next.latch = storage_byte(storage, addr);
-        let value = bus_byte(bus, c64);
-        set_storage(storage, addr, value);
+        next.latch = seen.storage;
+        let put = Put::Storage(addr, seen.bus);
         let reu = self.running(next);
-        FlagAnswer { flag: true, reu }
+        TickAnswer {
+            flag: true,
+            reu,
+            put,
+        }
     }
 
-    fn swap_write(self, d: DmaState, bus: &mut [u8], storage: &[u8], ba_low: bool) -> FlagAnswer
-        requires { ⌜ Ready d (now bus) (now storage) ⌝ }
-        ensures { λ r. ⌜ (r, now (bus .exit), now (storage .entry)) ≡ swapWrite self d (now (bus .entry)) (now (storage .entry)) «ba_low» ⌝ }
+    fn swap_write(self, d: DmaState, ba_low: bool) -> TickAnswer
+        ensures { λ r. ⌜ r ≡ swapWrite self d «ba_low» ⌝ }
     {
-        let c64 = d.c64_addr;
-        set_bus(bus, c64, d.latch);
-        self.advance(d, false, ba_low)
+        let addr = d.c64_addr;
+        let put = Put::Bus(addr, d.latch);
+        self.advance(d, false, ba_low, put)
     }
 
     fn tick_swap(
         self,
         phase: SwapPhase,
         d: DmaState,
-        bus: &mut [u8],
-        storage: &mut [u8],
+        seen: Seen,
         cycle: u64,
         ba_low: bool,
-    ) -> FlagAnswer
-        requires { ⌜ Ready d (now bus) (now storage) ⌝ }
-        ensures { λ r. ⌜ (r, now (bus .exit), now (storage .exit)) ≡ tickSwap phase self d (now (bus .entry)) (now (storage .entry)) cycle «ba_low» ⌝ }
+    ) -> TickAnswer
+        ensures { λ r. ⌜ r ≡ tickSwap phase self d seen cycle «ba_low» ⌝ }
     {
         match phase {
-            SwapPhase::ReadC64 => self.swap_read(d, bus, storage, cycle),
-            SwapPhase::WriteC64 => self.swap_write(d, bus, storage, ba_low),
+            SwapPhase::ReadC64 => self.swap_read(d, seen, cycle),
+            SwapPhase::WriteC64 => self.swap_write(d, ba_low),
         }
     }
 
@@ -140,109 +136,99 @@ impl Reu {
         self
     }
 
-    fn tick_verify(self, d: DmaState, bus: &[u8], storage: &[u8], ba_low: bool) -> FlagAnswer
-        requires { ⌜ Ready d (now bus) (now storage) ⌝ }
-        ensures { λ r. ⌜ (r, now (bus .entry), now (storage .entry)) ≡ tickVerify self d (now (bus .entry)) (now (storage .entry)) «ba_low» ⌝ }
+    fn tick_verify(self, d: DmaState, seen: Seen, ba_low: bool) -> TickAnswer
+        ensures { λ r. ⌜ r ≡ tickVerify self d seen «ba_low» ⌝ }
     {
-        let c64 = d.c64_addr;
-        let addr = d.reu_addr;
-        let error = bus_byte(bus, c64) != storage_byte(storage, addr);
+        let error = seen.bus != seen.storage;
+        let put = Put::Nothing;
         let reu = self.with_error(error);
-        reu.advance(d, error, ba_low)
+        reu.advance(d, error, ba_low, put)
     }
 
-    fn tick_refresh(self, d: DmaState, bus: &[u8], storage: &mut [u8], cycle: u64) -> FlagAnswer
-        requires { ⌜ Ready d (now bus) (now storage) ⌝ }
-        ensures { λ r. ⌜ (r, now (bus .entry), now (storage .exit)) ≡ tickRefresh self d (now (bus .entry)) (now (storage .entry)) cycle ⌝ }
+    fn tick_refresh(self, d: DmaState, seen: Seen, cycle: u64) -> TickAnswer
+        ensures { λ r. ⌜ r ≡ tickRefresh self d seen cycle ⌝ }
     {
-        let c64 = d.c64_addr;
         let addr = d.reu_addr;
-        let value = bus_byte(bus, c64);
-        set_storage(storage, addr, value);
+        let put = Put::Storage(addr, seen.bus);
         let mut next = d;
         next.read_clock_odd = cycle & 1 != 0;
         let mut open = self;
         open.swap_refresh = false;
         let reu = open.running(next);
-        FlagAnswer { flag: true, reu }
+        TickAnswer {
+            flag: true,
+            reu,
+            put,
+        }
     }
 
-    fn tick_tail(self, d: DmaState, bus: &[u8], storage: &[u8]) -> FlagAnswer
-        requires { ⌜ Ready d (now bus) (now storage) ⌝ }
-        ensures { λ r. ⌜ (r, now (bus .entry), now (storage .entry)) ≡ tickTail self d (now (bus .entry)) (now (storage .entry)) ⌝ }
+    fn tick_tail(self, d: DmaState, seen: Seen) -> TickAnswer
+        ensures { λ r. ⌜ r ≡ tickTail self d seen ⌝ }
     {
-        let c64 = d.c64_addr;
-        let addr = d.reu_addr;
-        let error = bus_byte(bus, c64) != storage_byte(storage, addr);
+        let error = seen.bus != seen.storage;
+        let put = Put::Nothing;
         let reu = self.finish_dma(d, !error);
-        FlagAnswer { flag: false, reu }
+        TickAnswer {
+            flag: false,
+            reu,
+            put,
+        }
     }
 
     fn tick_by_type(
         self,
         kind: TransferType,
         d: DmaState,
-        bus: &mut [u8],
-        storage: &mut [u8],
+        seen: Seen,
         cycle: u64,
         ba_low: bool,
-    ) -> FlagAnswer
-        requires { ⌜ Ready d (now bus) (now storage) ⌝ }
-        ensures { λ r. ⌜ (r, now (bus .exit), now (storage .exit)) ≡ tickByType kind self d (now (bus .entry)) (now (storage .entry)) cycle «ba_low» ⌝ }
+    ) -> TickAnswer
+        ensures { λ r. ⌜ r ≡ tickByType kind self d seen cycle «ba_low» ⌝ }
     {
         let phase = d.swap_phase;
         match kind {
-            TransferType::Store => self.tick_store(d, bus, storage, ba_low),
-            TransferType::Recall => self.tick_recall(d, bus, storage, ba_low),
-            TransferType::Swap => self.tick_swap(phase, d, bus, storage, cycle, ba_low),
-            TransferType::Verify => self.tick_verify(d, bus, storage, ba_low),
+            TransferType::Store => self.tick_store(d, seen, ba_low),
+            TransferType::Recall => self.tick_recall(d, seen, ba_low),
+            TransferType::Swap => self.tick_swap(phase, d, seen, cycle, ba_low),
+            TransferType::Verify => self.tick_verify(d, seen, ba_low),
         }
     }
 
-    fn tick_running(
-        self,
-        d: DmaState,
-        bus: &mut [u8],
-        storage: &mut [u8],
-        cycle: u64,
-        ba_low: bool,
-    ) -> FlagAnswer
-        requires { ⌜ Ready d (now bus) (now storage) ⌝ }
-        ensures { λ r. ⌜ (r, now (bus .exit), now (storage .exit)) ≡ tickRunning self d (now (bus .entry)) (now (storage .entry)) cycle «ba_low» ⌝ }
+    fn tick_running(self, d: DmaState, seen: Seen, cycle: u64, ba_low: bool) -> TickAnswer
+        ensures { λ r. ⌜ r ≡ tickRunning self d seen cycle «ba_low» ⌝ }
     {
         if self.swap_refresh {
-            return self.tick_refresh(d, bus, storage, cycle);
+            return self.tick_refresh(d, seen, cycle);
         }
         if d.verify_tail {
-            return self.tick_tail(d, bus, storage);
+            return self.tick_tail(d, seen);
         }
         let kind = d.transfer_type;
-        self.tick_by_type(kind, d, bus, storage, cycle, ba_low)
+        self.tick_by_type(kind, d, seen, cycle, ba_low)
     }
 
-    fn tick_of(
-        self,
-        dma: Dma,
-        bus: &mut [u8],
-        storage: &mut [u8],
-        cycle: u64,
-        ba_low: bool,
-    ) -> FlagAnswer
-        requires { ⌜ Lent dma (now bus) (now storage) ⌝ }
-        ensures { λ r. ⌜ (r, now (bus .exit), now (storage .exit)) ≡ tickOf dma self (now (bus .entry)) (now (storage .entry)) cycle «ba_low» ⌝ }
+    fn idle_tick(self) -> TickAnswer
+        ensures { λ r. ⌜ r ≡ ticks false self Put.Nothing ⌝ }
+    {
+        let put = Put::Nothing;
+        TickAnswer {
+            flag: false,
+            reu: self,
+            put,
+        }
+    }
+
+    fn tick_of(self, dma: Dma, seen: Seen, cycle: u64, ba_low: bool) -> TickAnswer
+        ensures { λ r. ⌜ r ≡ tickOf dma self seen cycle «ba_low» ⌝ }
     {
         match dma {
-            Dma::Idle => FlagAnswer {
-                flag: false,
-                reu: self,
-            },
+            Dma::Idle => self.idle_tick(),
             Dma::Running(d) => {
                 if self.attached {
-                    self.tick_running(d, bus, storage, cycle, ba_low)
+                    self.tick_running(d, seen, cycle, ba_low)
                 } else {
                     let idle = Dma::Idle;
-                    let reu = self.with_dma(idle);
-                    FlagAnswer { flag: false, reu }
+                    self.with_dma(idle).idle_tick()
                 }
             }
         }
@@ -256,10 +242,18 @@ impl Reu {
         cycle: u64,
         ba_low: bool,
     ) -> FlagAnswer
-        requires { ⌜ Lent (self .dma) (now bus) (now storage) ⌝ }
         ensures { λ r. ⌜ (r, now (bus .exit), now (storage .exit)) ≡ tickDma self (now (bus .entry)) (now (storage .entry)) cycle «ba_low» ⌝ }
     {
         let dma = self.dma;
-        self.tick_of(dma, bus, storage, cycle, ba_low)
+        let seen = dma.seen(bus, storage);
+        let ticked = self.tick_of(dma, seen, cycle, ba_low);
+        let put = ticked.put;
+        let reu = ticked.reu;
+        put.to_bus(bus);
+        put.to_storage(storage);
+        FlagAnswer {
+            flag: ticked.flag,
+            reu,
+        }
     }
 }

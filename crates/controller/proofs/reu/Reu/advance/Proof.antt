@@ -12,8 +12,7 @@ returns c =
     let its-if1 = c .before .before .if1 in
     let its-publish-live-counters = c .before .before .before .publish-live-counters in
     let its-complete-byte = c .before .before .before .before .before .complete-byte in
-    when _ (rw (its-complete-byte .ensures) at (its-if1 .taken))
-    (rw (c .running .ensures, its-with-tail .ensures, its-publish-live-counters .ensures, its-complete-byte .ensures))
+    when _ (rw (its-complete-byte .ensures) at (its-if1 .taken)) (rw (c .running .ensures, its-with-tail .ensures, its-publish-live-counters .ensures, its-complete-byte .ensures))
 
 returns-2 : tie.Need-returns-2
 unfolding advance completeByte
@@ -23,8 +22,7 @@ returns-2 c =
     let its-publish-live-counters = c .before .before .before .publish-live-counters in
     let its-complete-byte = c .before .before .before .before .before .complete-byte in
     let its-is = c .before .before .before .before .before .before .is in
-    unless _ (rw (its-complete-byte .ensures) at (its-if1 .left))
-    (when _ (rw (its-complete-byte .ensures) at (its-if2 .taken)) (rw (c .finish-dma .ensures, its-publish-live-counters .ensures, its-is .ensures, its-complete-byte .ensures)))
+    unless _ (rw (its-complete-byte .ensures) at (its-if1 .left)) (when _ (rw (its-complete-byte .ensures) at (its-if2 .taken)) (rw (c .finish-dma .ensures, its-publish-live-counters .ensures, its-is .ensures, its-complete-byte .ensures)))
 
 returns-3 : tie.Need-returns-3
 unfolding advance completeByte
@@ -33,8 +31,7 @@ returns-3 c =
     let its-if1 = c .before .before .if1 in
     let its-publish-live-counters = c .before .before .before .publish-live-counters in
     let its-complete-byte = c .before .before .before .before .before .complete-byte in
-    unless _ (rw (its-complete-byte .ensures) at (its-if1 .left))
-    (unless _ (rw (its-complete-byte .ensures) at (its-if2 .left)) (rw (c .running2 .ensures, its-publish-live-counters .ensures, its-complete-byte .ensures)))
+    unless _ (rw (its-complete-byte .ensures) at (its-if1 .left)) (unless _ (rw (its-complete-byte .ensures) at (its-if2 .left)) (rw (c .running2 .ensures, its-publish-live-counters .ensures, its-complete-byte .ensures)))
 
 pub advance-spec : {M : Type 1} → statement M
 advance-spec =

@@ -1,7 +1,5 @@
-use mathlib.Core.List.{List}
 use mathlib.Core.Bool.{true}
 use mathlib.Core.Path.{ap}
-use Prim.Native.Nat.{ℕ}
 use Rattle.controller.specs.TickDma.{Ticked, ticked}
 use Rattle.controller.specs.Cycle.{cycleBy}
 use borrow.Author.Needs.{needs}
@@ -21,8 +19,7 @@ unfolding cycleBy
 returns-3 c =
     let its-tick = c .before .before .before .before .before .tick in
     let its-enum-told3 = c .before .before .before .before .before .before .before .before .enum-told3 in
-    rw (its-enum-told3 .given .1)
-    (ap (λ (t : Ticked). (ticked true (t .0 .reu), t .1, t .2)) (its-tick .ensures))
+    rw (its-enum-told3 .given .1) (ap (λ (t : Ticked). (ticked true (t .0 .reu), t .1, t .2)) (its-tick .ensures))
 
 pub cycle-by-spec : {M : Type 1} → statement M
 cycle-by-spec =

@@ -6,9 +6,10 @@ use Rattle.controller.proofs.reu.Reu.plain.Tie as tie
 returns : tie.Need-returns
 unfolding plain
 returns c =
-    let its-is-active = c .before .is-active in
-    rw (c .action-for-cycle .ensures, its-is-active .ensures)
+    let its-action-for-cycle = c .before .action-for-cycle in
+    let its-is-active = c .before .before .is-active in
+    rw (c .granted .ensures, its-action-for-cycle .ensures, its-is-active .ensures)
 
 pub plain-spec : {M : Type 1} → statement M
 plain-spec =
-    tie.close (tie.spec (λ c κs. search needs) (λ c κs. search needs) returns)
+    tie.close (tie.spec (λ c κs. search needs) (λ c κs. search needs) (λ c κs. search needs) returns)

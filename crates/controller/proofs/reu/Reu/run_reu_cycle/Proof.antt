@@ -1,8 +1,7 @@
 use Rattle.controller.specs.Prelude.{Answer}
 use mathlib.Core.Path.{ap}
 use Rattle.controller.specs.Calls.{cycleCall, tickedAnswer}
-use Rattle.controller.proofs.Checked.{done, not-done, accepted}
-use Rattle.controller.proofs.WellFormed.{well-range}
+use Rattle.controller.proofs.Checked.{done, not-done}
 use borrow.Author.Needs.{needs}
 use Rattle.controller.proofs.reu.Reu.run_reu_cycle.Statement.{statement}
 use Rattle.controller.proofs.reu.Reu.run_reu_cycle.Tie as tie
@@ -13,15 +12,7 @@ returns c =
     let its-if1 = c .before .if1 in
     let its-refusal = c .before .before .refusal in
     let its-args = c .before .before .before .before .before .args in
-    not-done _ _ (its-refusal .ensures) _ _ _ (its-if1 .taken)
-    (ap (λ (y : Answer). (y, its-args .bus .now, its-args .storage .now)) (c .refused .ensures))
-
-cycle-requires : tie.Need-cycle-requires
-cycle-requires c κs =
-    let its-if1 = c .before .before .if1 in
-    let its-refusal = c .before .before .before .refusal in
-    let k = accepted _ _ _ _ (its-refusal .ensures) (its-if1 .left) in record
-    { range = well-range _ (k .well); bus = k .bus-length; storage = k .storage-length }
+    not-done _ _ (its-refusal .ensures) _ _ _ (its-if1 .taken) (ap (λ (y : Answer). (y, its-args .bus .now, its-args .storage .now)) (c .refused .ensures))
 
 returns-2 : tie.Need-returns-2
 unfolding cycleCall
@@ -30,11 +21,10 @@ returns-2 c =
     let its-cycle = c .before .before .before .before .before .before .before .cycle in
     let its-if1 = c .before .before .before .before .before .before .before .before .before .before .if1 in
     let its-refusal = c .before .before .before .before .before .before .before .before .before .before .before .refusal in
-    done _ _ (its-refusal .ensures) _ _ _ (its-if1 .left)
-    (rw (c .answered .ensures, its-flag-number .ensures) (ap tickedAnswer (its-cycle .ensures)))
+    done _ _ (its-refusal .ensures) _ _ _ (its-if1 .left) (rw (c .answered .ensures, its-flag-number .ensures) (ap tickedAnswer (its-cycle .ensures)))
 
 pub run-reu-cycle-spec : {M : Type 1} → statement M
 run-reu-cycle-spec =
     tie.close
-    (tie.spec (λ c κs. search needs) (λ c κs. search needs) returns cycle-requires (λ c κs. search needs)
-    (λ c κs. search needs) (λ c. search needs) (λ c. search needs) returns-2)
+    (tie.spec (λ c κs. search needs) (λ c κs. search needs) returns (λ c κs. search needs)
+    (λ c κs. search needs) (λ c κs. search needs) (λ c. search needs) (λ c. search needs) returns-2)

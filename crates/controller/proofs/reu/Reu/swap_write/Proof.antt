@@ -5,10 +5,8 @@ use Rattle.controller.proofs.reu.Reu.swap_write.Tie as tie
 
 returns : tie.Need-returns
 unfolding swapWrite
-returns c =
-    let its-set-bus = c .before .before .before .set-bus in
-    rw (c .advance .ensures, its-set-bus .ensures)
+returns c = c .advance .ensures
 
 pub swap-write-spec : {M : Type 1} → statement M
 swap-write-spec =
-    tie.close (tie.spec (λ c κs. search needs) (λ c κs. search needs) (λ c. search needs) returns)
+    tie.close (tie.spec (λ c κs. search needs) returns)

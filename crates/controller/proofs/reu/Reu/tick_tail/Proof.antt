@@ -5,11 +5,8 @@ use Rattle.controller.proofs.reu.Reu.tick_tail.Tie as tie
 
 returns : tie.Need-returns
 unfolding tickTail
-returns c =
-    let its-storage-byte = c .before .storage-byte in
-    let its-bus-byte = c .before .before .bus-byte in
-    rw (c .finish-dma .ensures, its-bus-byte .ensures, its-storage-byte .ensures)
+returns c = rw (c .finish-dma .ensures)
 
 pub tick-tail-spec : {M : Type 1} → statement M
 tick-tail-spec =
-    tie.close (tie.spec (λ c κs. search needs) (λ c κs. search needs) (λ c κs. search needs) returns)
+    tie.close (tie.spec (λ c κs. search needs) returns)

@@ -7,12 +7,8 @@ returns : tie.Need-returns
 unfolding tickVerify
 returns c =
     let its-with-error = c .before .with-error in
-    let its-storage-byte = c .before .before .storage-byte in
-    let its-bus-byte = c .before .before .before .bus-byte in
-    rw (c .advance .ensures, its-with-error .ensures, its-bus-byte .ensures, its-storage-byte .ensures)
+    rw (c .advance .ensures, its-with-error .ensures)
 
 pub tick-verify-spec : {M : Type 1} → statement M
 tick-verify-spec =
-    tie.close
-    (tie.spec (λ c κs. search needs) (λ c κs. search needs) (λ c κs. search needs) (λ c κs. search needs)
-    returns)
+    tie.close (tie.spec (λ c κs. search needs) (λ c κs. search needs) returns)

@@ -1,0 +1,14 @@
+use Rattle.controller.proofs.Pick.{when, unless}
+use mathlib.Core.Path.{refl}
+use Rattle.controller.proofs.reu.Reu.recalled.Statement.{statement}
+use Rattle.controller.proofs.reu.Reu.recalled.Tie as tie
+
+returns : tie.Need-returns
+returns c = when _ (c .if1 .taken) refl
+
+returns-2 : tie.Need-returns-2
+returns-2 c = unless _ (c .if1 .left) refl
+
+pub recalled-spec : {M : Type 1} → statement M
+recalled-spec =
+    tie.close (tie.spec returns returns-2)
