@@ -1,205 +1,190 @@
--- What each exported call does on the image of a sound controller: it is accepted, and does what the core's definition says.
-use Prim.Native.Nat.{ℕ}
+-- What each of the fifteen exported calls does on the image of a sound controller: it is tested for its refusal number, and where that is
+-- 0, which an accepted call's is, it does what the controller's definition says.
+use Prim.Native.Nat.{ℕ, _<_}
 use native.Mathlib.Nat.{zero-add}
-use mathlib.Core.Bool.{Bool, true, false, cond, false≢true}
+use native.Mathlib.Omega.{arith}
+use mathlib.Core.Bool.{Bool, true, false, cond}
 use mathlib.Core.Path.{_≡_, refl, sym, ap, _∙_}
-use mathlib.Core.List.{List}
+use mathlib.Core.List.{List, [], _∷_}
 use lib.ListN.{length}
 use lib.Dec.{eqb, ltb}
-use borrow.Author.Tests.{eq-eqb, eqb-true}
+use borrow.Author.Tests.{eq-eqb, eqb-true, eqb-false, lt-ltb, ltb-true}
 use Rattle.controller.specs.declared.reu.Answer.{Answer}
 use Rattle.controller.specs.declared.reu.Reu.{Reu}
 use Rattle.controller.specs.Bytes.{bitOf}
-use Rattle.controller.specs.Registers.{readRegister, writeRegister, debugRegister}
-use Rattle.controller.specs.Timing.{c64Access}
-use Rattle.controller.specs.Dma.{active}
-use Rattle.controller.specs.StartDma.{triggerFf00}
-use Rattle.controller.specs.Enable.{newReu, resetReu, setEnabled}
-use Rattle.controller.specs.BusAction.{busAction, cpuReadyAfterDma}
-use Rattle.controller.specs.TickDma.{tickDma}
-use Rattle.controller.specs.Cycle.{runReuCycle}
+use Rattle.controller.specs.Enable.{newReu}
 use Rattle.controller.specs.Constants.{busSize, storageSize}
-use Rattle.controller.specs.Refusals.{refusalOf, checked}
-use Rattle.controller.specs.Calls.{actionNumber, accessNumber, capacity, answered, refused, call, callStorage, callBoth, enabledAnswer, grantedAnswer, tickedAnswer, resetCall, setEnabledCall, storagePresentCall, capacityBytesCall, triggerCall, readCall, writeCall, dmaActiveCall, busActionCall, cpuReadyCall, debugRegisterCall, c64AccessCall, tickCall, cycleCall}
+use Rattle.controller.specs.Refusals.{wellFormed, firstRefusal, refusalOf, checked}
+use Rattle.controller.specs.Calls.{answered, refused, call, callStorage, callBoth, resetCall, setEnabledCall, storagePresentCall, capacityBytesCall, triggerCall, readCall, writeCall, dmaActiveCall, busActionCall, cpuReadyCall, debugRegisterCall, c64AccessCall, tickCall, cycleCall}
 use Rattle.image.specs.declared.Opened.{Opened}
 use Rattle.image.specs.Layout.{imageSize, packImage}
 use Rattle.image.specs.Open.{openImage}
 use Rattle.image.proofs.Packed.{open-pack, pack-long}
-use Rattle.reu.specs.Exports.{flag, refusalUnit, refusal, code, imageAfter, look, changed, change, changedStorage, changeStorage, changedBoth, changeBoth, reuNew, reuReset, reuSetEnabled, reuStoragePresent, reuCapacityBytes, reuTriggerFf00, reuRead, reuWrite, reuDmaActive, reuBusAction, reuCpuReady, reuDebugRegister, reuC64Access, reuTickDma, reuCycle}
+use Rattle.reu.specs.Exports.{flag, refusalUnit, refusal, code, imageAfter, look, changed, change, changedStorage, changeStorage, changedBoth, changeBoth, reuNew}
+use Rattle.claims.specs.Calls.{Other, new, reset, setEnabled, storagePresent, capacityBytes, triggerFf00, dmaActive, busAction, cpuReady, debugRegister, c64Access, tickDma, Kind, read, write, cycle, other, Done, looked, onImage, onStorage, onBoth, doesOther, does, accepts}
 use Rattle.image.proofs.Sound.{Sound}
 use Rattle.image.proofs.Valid.{sound-well, sound-typed}
+use Rattle.claims.proofs.States.{St, held, on, Act, looks, changes, stores, moves, otherAct, act, valueBy, leftBy, numberBy, valueOf, stepOf, numberOf, Ready}
 
-module _ (u : Reu) (sound : Sound u) where
-  opened : openImage (packImage u) ≡ record { refusal = 0; reu = u }
-  opened = open-pack u (sound-typed u sound) (sound-well u sound)
+-- ---- the number by the lengths
 
-  -- ---- nothing is refused
+abbrev number : Bool → Bool → Bool → ℕ
+number controller bus storage = firstRefusal ((controller, 2) ∷ (bus, 3) ∷ (storage, 4) ∷ [])
 
-  unrefused : {A : Type 0} (m s : ℕ) → m ≡ busSize → s ≡ storageSize → (refused : ℕ → A) (x : A) → checked (refusalOf u m s) refused x ≡ x
-  unfolding checked refusalOf
-  unrefused m s hm hs refused x =
-      let lm : eqb m busSize ≡ true = eq-eqb m busSize hm in
-      let ls : eqb s storageSize ≡ true = eq-eqb s storageSize hs in
-      λ i. checked (cond (sound-well u sound i) (cond (lm i) (cond (ls i) 0 4) 3) 2) refused x
+-- a number that is 0 with a bus is 0 without
+pub without-bus : (u : Reu) (b s : ℕ) → refusalOf u b s ≡ 0 → refusalOf u busSize s ≡ 0
+unfolding refusalOf
+without-bus u b s = go (wellFormed u) (eqb b busSize) (eqb s storageSize)
+  where
+    go : (w p q : Bool) → number w p q ≡ 0 → number w true q ≡ 0
+    go true true q e = e
+    go true false q e = absurd (omega arith)
+    go false p q e = absurd (omega arith)
 
-  done : (a : Answer) → call u a ≡ a
-  done a = unrefused busSize storageSize refl refl (refused u) a
+pub zero-number : (u : Reu) → Sound u → (b s : ℕ) → b ≡ busSize → s ≡ storageSize → refusalOf u b s ≡ 0
+unfolding refusalOf
+zero-number u sound b s hb hs = λ i. number (sound-well u sound i) (eq-eqb b busSize hb i) (eq-eqb s storageSize hs i)
 
-  -- ---- the families
+-- ---- a call, by the number that it is tested for
 
-  accepted-code : (v : ℕ) (w : Reu) → code (answered v w) ≡ v
-  unfolding code
-  accepted-code v w = zero-add v
+-- an answer with the memories, and what is then answered and left
+abbrev Whole : Type 0
+Whole = Answer × List ℕ × List ℕ
 
-  look-is : (f : Reu → Answer) (v : ℕ) (w : Reu) → f u ≡ answered v w → look f (packImage u) ≡ v
-  unfolding look checked
-  look-is f v w e =
-      ap (λ (o : Opened). checked (o .refusal) refusal (code (f (o .reu)))) opened ∙ ap code e ∙ accepted-code v w
+module _ (x : St) (sound : Sound (x .u)) where
+  abbrev through : Whole → Done
+  through y = record { answer = code (y .0); left = record { image = imageAfter (y .0) (packImage (x .u)); bus = y .1; storage = y .2 } }
 
-  change-is : (f : Reu → Answer) (v : ℕ) (w : Reu) → f u ≡ answered v w → change f (packImage u) ≡ (v, packImage w)
-  unfolding change checked imageAfter
-  change-is f v w e =
-      ap (λ (o : Opened). checked (o .refusal) (λ n. (refusal n, packImage u)) (changed (f (o .reu)) (packImage u))) opened
-      ∙ ap (λ (a : Answer). changed a (packImage u)) e ∙ (λ i. (accepted-code v w i, packImage w))
+  abbrev tested : ℕ → Whole → Done
+  tested n y = through (checked n (λ k. (refused (x .u) k, x .m, x .s)) y)
 
-  storage-is : (f : Reu → List ℕ → (Answer × List ℕ)) (s : List ℕ) (v : ℕ) (w : Reu) (t : List ℕ) → f u s ≡ (answered v w, t)
-      → changeStorage f (packImage u) s ≡ (v, packImage w, t)
-  unfolding changeStorage checked imageAfter
-  storage-is f s v w t e =
-      ap (λ (o : Opened). checked (o .refusal) (λ n. (refusal n, packImage u, s)) (changedStorage (f (o .reu) s) (packImage u))) opened
-      ∙ ap (λ (a : Answer × List ℕ). changedStorage a (packImage u)) e ∙ (λ i. (accepted-code v w i, packImage w, t))
+  abbrev testedBy : Act → Done
+  testedBy a = tested (numberBy x a) (answered (valueBy a) (leftBy x a .u), leftBy x a .m, leftBy x a .s)
 
-  both-is : (f : Reu → List ℕ → List ℕ → (Answer × List ℕ × List ℕ)) (m s : List ℕ) (v : ℕ) (w : Reu) (b t : List ℕ) → f u m s ≡ (answered v w, b, t)
-      → changeBoth f (packImage u) m s ≡ (v, packImage w, b, t)
-  unfolding changeBoth checked imageAfter
-  both-is f m s v w b t e =
-      ap (λ (o : Opened). checked (o .refusal) (λ n. (refusal n, packImage u, m, s)) (changedBoth (f (o .reu) m s) (packImage u))) opened
-      ∙ ap (λ (a : Answer × List ℕ × List ℕ). changedBoth a (packImage u)) e ∙ (λ i. (accepted-code v w i, packImage w, b, t))
+  opened : openImage (packImage (x .u)) ≡ record { refusal = 0; reu = x .u }
+  opened = open-pack (x .u) (sound-typed (x .u) sound) (sound-well (x .u) sound)
 
-  -- ---- a bus or a storage of another length is refused, so an accepted call was lent none
+  -- a call that is lent no memory is not refused
+  pub alone : refusalOf (x .u) busSize storageSize ≡ 0
+  alone = zero-number (x .u) sound busSize storageSize refl refl
 
-  module _ (f : Reu → List ℕ → (Answer × List ℕ)) (s : List ℕ) (d : Answer × List ℕ) (e : f u s ≡ callStorage u s d)
-      (ok : ltb (changeStorage f (packImage u) s .0) refusalUnit ≡ true) where
-    storage-answer : (b : Bool) → eqb (length s) storageSize ≡ b
-        → changeStorage f (packImage u) s .0 ≡ code (checked {A = Answer × List ℕ} (cond b 0 4) (λ n. (refused u n, s)) d .0)
-    unfolding changeStorage checked refusalOf
-    storage-answer b h =
-        ap (λ (o : Opened). checked {A = ℕ × List ℕ × List ℕ} (o .refusal) (λ n. (refusal n, packImage u, s)) (changedStorage (f (o .reu) s) (packImage u)) .0) opened
-        ∙ ap (λ (a : Answer × List ℕ). code (a .0)) e
-        ∙ (λ i. code (checked {A = Answer × List ℕ} (cond (sound-well u sound i) (cond (h i) 0 4) 2) (λ n. (refused u n, s)) d .0))
+  -- a family g of calls tells the two arms of a test as `through` does
+  alike : {A : Type 0} (g : A → Done) (n : ℕ) (r : ℕ → A) (d : A) (y : Whole) → ((k : ℕ) → g (r k) ≡ through (refused (x .u) k, x .m, x .s))
+      → g d ≡ through y → g (checked n r d) ≡ tested n y
+  unfolding checked
+  alike g n r d y h e = go (eqb n 0)
+    where
+      go : (b : Bool) → g (cond b d (r n)) ≡ through (cond b y (refused (x .u) n, x .m, x .s))
+      go true = e
+      go false = h n
 
-    pub storage-length : length s ≡ storageSize
-    unfolding checked code
-    storage-length = go (eqb (length s) storageSize) refl
-      where
-        go : (b : Bool) → eqb (length s) storageSize ≡ b → length s ≡ storageSize
-        go true h = eqb-true (length s) storageSize h
-        go false h = absurd (false≢true (sym (ap (λ (n : ℕ). ltb n refusalUnit) (storage-answer false h)) ∙ ok))
+  looks-is : (f : Reu → Answer) (v : ℕ) → f (x .u) ≡ call (x .u) (answered v (x .u)) → looked (held x) (look f (packImage (x .u))) ≡ testedBy (looks v)
+  unfolding look checked imageAfter
+  looks-is f v e =
+      ap (λ (o : Opened). looked (held x) (checked (o .refusal) refusal (code (f (o .reu))))) opened
+      ∙ ap (λ (a : Answer). looked (held x) (code a)) e
+      ∙ ap (λ (n : ℕ). looked (held x) (code (checked n (refused (x .u)) (answered v (x .u))))) alone
+      ∙ sym (ap (λ (n : ℕ). tested n (answered v (x .u), x .m, x .s)) alone)
 
-  module _ (f : Reu → List ℕ → List ℕ → (Answer × List ℕ × List ℕ)) (m s : List ℕ) (d : Answer × List ℕ × List ℕ)
-      (e : f u m s ≡ callBoth u m s d) (ok : ltb (changeBoth f (packImage u) m s .0) refusalUnit ≡ true) where
-    both-answer : (a b : Bool) → eqb (length m) busSize ≡ a → eqb (length s) storageSize ≡ b
-        → changeBoth f (packImage u) m s .0
-        ≡ code (checked {A = Answer × List ℕ × List ℕ} (cond a (cond b 0 4) 3) (λ n. (refused u n, m, s)) d .0)
-    unfolding changeBoth checked refusalOf
-    both-answer a b g h =
-        ap (λ (o : Opened). checked {A = ℕ × List ℕ × List ℕ × List ℕ} (o .refusal) (λ n. (refusal n, packImage u, m, s)) (changedBoth (f (o .reu) m s) (packImage u)) .0) opened
-        ∙ ap (λ (x : Answer × List ℕ × List ℕ). code (x .0)) e
-        ∙ (λ i. code (checked {A = Answer × List ℕ × List ℕ} (cond (sound-well u sound i) (cond (g i) (cond (h i) 0 4) 3) 2) (λ n. (refused u n, m, s)) d .0))
+  changes-is : (f : Reu → Answer) (v : ℕ) (w : Reu) → f (x .u) ≡ call (x .u) (answered v w) → onImage (held x) (change f (packImage (x .u))) ≡ testedBy (changes v w)
+  unfolding change checked
+  changes-is f v w e =
+      ap (λ (o : Opened). onImage (held x) (checked (o .refusal) (λ n. (refusal n, packImage (x .u))) (changed (f (o .reu)) (packImage (x .u))))) opened
+      ∙ ap (λ (a : Answer). onImage (held x) (changed a (packImage (x .u)))) e
+      ∙ alike (λ (a : Answer). onImage (held x) (changed a (packImage (x .u)))) (refusalOf (x .u) busSize storageSize) (refused (x .u)) (answered v w) _ (λ k. refl) refl
 
-    pub both-lengths : (length m ≡ busSize) × (length s ≡ storageSize)
-    unfolding checked code
-    both-lengths = go (eqb (length m) busSize) (eqb (length s) storageSize) refl refl
-      where
-        go : (a b : Bool) → eqb (length m) busSize ≡ a → eqb (length s) storageSize ≡ b → (length m ≡ busSize) × (length s ≡ storageSize)
-        go true true g h = (eqb-true (length m) busSize g, eqb-true (length s) storageSize h)
-        go true false g h = absurd (false≢true (sym (ap (λ (n : ℕ). ltb n refusalUnit) (both-answer true false g h)) ∙ ok))
-        go false b g h = absurd (false≢true (sym (ap (λ (n : ℕ). ltb n refusalUnit) (both-answer false b g h)) ∙ ok))
+  stores-is : (f : Reu → List ℕ → (Answer × List ℕ)) (v : ℕ) (w : Reu) (t : List ℕ) → f (x .u) (x .s) ≡ callStorage (x .u) (x .s) (answered v w, t)
+      → onStorage (held x) (changeStorage f (packImage (x .u)) (x .s)) ≡ testedBy (stores v w t)
+  unfolding changeStorage checked
+  stores-is f v w t e =
+      ap (λ (o : Opened). onStorage (held x) (checked (o .refusal) (λ n. (refusal n, packImage (x .u), x .s)) (changedStorage (f (o .reu) (x .s)) (packImage (x .u))))) opened
+      ∙ ap (λ (a : Answer × List ℕ). onStorage (held x) (changedStorage a (packImage (x .u)))) e
+      ∙ alike (λ (a : Answer × List ℕ). onStorage (held x) (changedStorage a (packImage (x .u)))) (refusalOf (x .u) busSize (length (x .s))) (λ k. (refused (x .u) k, x .s)) (answered v w, t) _ (λ k. refl) refl
+
+  moves-is : (f : Reu → List ℕ → List ℕ → Whole) (v : ℕ) (w : Reu) (b t : List ℕ) → f (x .u) (x .m) (x .s) ≡ callBoth (x .u) (x .m) (x .s) (answered v w, b, t)
+      → onBoth (changeBoth f (packImage (x .u)) (x .m) (x .s)) ≡ testedBy (moves v w b t)
+  unfolding changeBoth checked
+  moves-is f v w b t e =
+      ap (λ (o : Opened). onBoth (checked (o .refusal) (λ n. (refusal n, packImage (x .u), x .m, x .s)) (changedBoth (f (o .reu) (x .m) (x .s)) (packImage (x .u))))) opened
+      ∙ ap (λ (a : Whole). onBoth (changedBoth a (packImage (x .u)))) e
+
+  -- what is tested for 0
+  done : (a : Act) → numberBy x a ≡ 0 → testedBy a ≡ record { answer = valueBy a; left = held (leftBy x a) }
+  unfolding checked code imageAfter
+  done a z =
+      ap (λ (n : ℕ). tested n (answered (valueBy a) (leftBy x a .u), leftBy x a .m, leftBy x a .s)) z
+      ∙ (λ i. record { answer = zero-add (valueBy a) i; left = held (leftBy x a) })
+
+  -- "Making a new image tests only" its length
+  new-is : onImage (held x) (reuNew (packImage (x .u))) ≡ testedBy (changes 0 newReu)
+  unfolding reuNew
+  new-is =
+      ap (λ (t : Bool). onImage (held x) (cond t (0, packImage newReu) (refusal 1, packImage (x .u))))
+      (eq-eqb (length (packImage (x .u))) imageSize (pack-long (x .u) (sound-typed (x .u) sound) (sound-well (x .u) sound)))
+      ∙ sym (done (changes 0 newReu) alone)
 
   -- ---- the calls
 
-  pub new-is : reuNew (packImage u) ≡ (0, packImage newReu)
-  unfolding reuNew
-  new-is =
-      ap (λ (t : Bool). cond t (0, packImage newReu) (refusal 1, packImage u))
-      (eq-eqb (length (packImage u)) imageSize (pack-long u (sound-typed u sound) (sound-well u sound)))
+  other-is : (o : Other) → doesOther o (held x) ≡ testedBy (otherAct o x)
+  unfolding resetCall setEnabledCall storagePresentCall capacityBytesCall triggerCall dmaActiveCall busActionCall cpuReadyCall debugRegisterCall c64AccessCall tickCall
+  other-is new = new-is
+  other-is (reset h) = changes-is resetCall _ _ refl
+  other-is (setEnabled e) = stores-is (λ w t. setEnabledCall w t (flag e)) _ _ _ refl
+  other-is storagePresent = looks-is storagePresentCall _ refl
+  other-is capacityBytes = looks-is capacityBytesCall _ refl
+  other-is triggerFf00 = changes-is triggerCall _ _ refl
+  other-is dmaActive = looks-is dmaActiveCall _ refl
+  other-is (busAction h p n) = stores-is (λ w t. busActionCall w t (flag h) (flag p) n) _ _ _ refl
+  other-is (cpuReady h) = changes-is (λ w. cpuReadyCall w (flag h)) _ _ refl
+  other-is (debugRegister i) = looks-is (λ w. debugRegisterCall w i) _ refl
+  other-is c64Access = looks-is c64AccessCall _ refl
+  other-is (tickDma n l) = moves-is (λ w b t. tickCall w b t n (flag l)) _ _ _ _ refl
 
-  pub reset-is : (h : ℕ) → reuReset (packImage u) h ≡ (0, packImage (resetReu u))
-  unfolding resetCall
-  reset-is h = change-is resetCall 0 (resetReu u) (done (answered 0 (resetReu u)))
+  tested-is : (k : Kind) → does k (held x) ≡ testedBy (act k x)
+  unfolding readCall writeCall cycleCall
+  tested-is (read a) = changes-is (λ w. readCall w a) _ _ refl
+  tested-is (write a v) = changes-is (λ w. writeCall w a v) _ _ refl
+  tested-is (cycle h n l p) = moves-is (λ w b t. cycleCall w b t (flag h) (flag p) n (flag l)) _ _ _ _ refl
+  tested-is (other o) = other-is o
 
-  pub storage-present-is : reuStoragePresent (packImage u) ≡ bitOf (u .attached)
-  unfolding storagePresentCall
-  storage-present-is = look-is storagePresentCall (bitOf (u .attached)) u (done (answered (bitOf (u .attached)) u))
+  -- ---- accepted
 
-  pub capacity-is : reuCapacityBytes (packImage u) ≡ capacity (u .attached)
-  unfolding capacityBytesCall
-  capacity-is = look-is capacityBytesCall (capacity (u .attached)) u (done (answered (capacity (u .attached)) u))
+  pub does-is : (k : Kind) → numberOf k x ≡ 0 → does k (held x) ≡ record { answer = valueOf k x; left = held (stepOf k x) }
+  does-is k z = tested-is k ∙ done (act k x) z
 
-  pub trigger-is : reuTriggerFf00 (packImage u) ≡ (0, packImage (triggerFf00 u))
-  unfolding triggerCall
-  trigger-is = change-is triggerCall 0 (triggerFf00 u) (done (answered 0 (triggerFf00 u)))
+  pub leaves-is : (k : Kind) → numberOf k x ≡ 0 → does k (held x) .left ≡ held (stepOf k x)
+  leaves-is k z = ap (λ (d : Done). d .left) (does-is k z)
 
-  pub read-is : (a : ℕ) → reuRead (packImage u) a ≡ (readRegister u a .value, packImage (readRegister u a .reu))
-  unfolding readCall
-  read-is a =
-      change-is (λ (w : Reu). readCall w a) (readRegister u a .value) (readRegister u a .reu) (done (answered (readRegister u a .value) (readRegister u a .reu)))
+  pub answer-is : (k : Kind) → numberOf k x ≡ 0 → does k (held x) .answer ≡ valueOf k x
+  answer-is k z = ap (λ (d : Done). d .answer) (does-is k z)
 
-  pub write-is : (a v : ℕ) → reuWrite (packImage u) a v ≡ (0, packImage (writeRegister u a v))
-  unfolding writeCall
-  write-is a v = change-is (λ (w : Reu). writeCall w a v) 0 (writeRegister u a v) (done (answered 0 (writeRegister u a v)))
+  small-number : (n : ℕ) (y : Whole) → tested n y .answer < refusalUnit → n ≡ 0
+  unfolding checked code
+  small-number n y = go (eqb n 0) refl
+    where
+      go : (b : Bool) → eqb n 0 ≡ b → code (cond b y (refused (x .u) n, x .m, x .s) .0) < refusalUnit → n ≡ 0
+      go true e h = eqb-true n 0 e
+      go false e h = absurd (omega (arith, eqb-false n 0 e))
 
-  pub dma-active-is : reuDmaActive (packImage u) ≡ bitOf (active (u .dma))
-  unfolding dmaActiveCall
-  dma-active-is = look-is dmaActiveCall (bitOf (active (u .dma))) u (done (answered (bitOf (active (u .dma))) u))
+  -- a refusal's answer is no smaller than 16,777,216, so an accepted call's number is 0
+  pub accepted-number : (k : Kind) → accepts (on x k) ≡ true → numberOf k x ≡ 0
+  accepted-number k ok =
+      small-number (numberOf k x) _ (ltb-true _ refusalUnit (ap (λ (d : Done). ltb (d .answer) refusalUnit) (sym (tested-is k)) ∙ ok))
 
-  pub cpu-ready-is : (h : ℕ) → reuCpuReady (packImage u) h ≡ (bitOf (cpuReadyAfterDma u (flag h) .flag), packImage (cpuReadyAfterDma u (flag h) .reu))
-  unfolding cpuReadyCall
-  cpu-ready-is h =
-      change-is (λ (w : Reu). cpuReadyCall w (flag h)) (bitOf (cpuReadyAfterDma u (flag h) .flag)) (cpuReadyAfterDma u (flag h) .reu)
-      (done (answered (bitOf (cpuReadyAfterDma u (flag h) .flag)) (cpuReadyAfterDma u (flag h) .reu)))
+  -- a call whose value is small is accepted
+  pub is-accepted : (k : Kind) → numberOf k x ≡ 0 → valueOf k x < refusalUnit → accepts (on x k) ≡ true
+  is-accepted k z h = ap (λ (n : ℕ). ltb n refusalUnit) (answer-is k z) ∙ lt-ltb (valueOf k x) refusalUnit h
 
-  pub debug-is : (i : ℕ) → reuDebugRegister (packImage u) i ≡ debugRegister u i
-  unfolding debugRegisterCall
-  debug-is i = look-is (λ (w : Reu). debugRegisterCall w i) (debugRegister u i) u (done (answered (debugRegister u i) u))
+-- where the lengths are right every number is 0
+pub ready-number : (x : St) → Ready x → (k : Kind) → numberOf k x ≡ 0
+ready-number x r k = go (act k x)
+  where
+    go : (a : Act) → numberBy x a ≡ 0
+    go (looks v) = zero-number (x .u) (r .sound) _ _ refl refl
+    go (changes v w) = zero-number (x .u) (r .sound) _ _ refl refl
+    go (stores v w t) = zero-number (x .u) (r .sound) _ _ refl (r .storage .size)
+    go (moves v w b t) = zero-number (x .u) (r .sound) _ _ (r .bus .size) (r .storage .size)
 
-  pub c64-access-is : reuC64Access (packImage u) ≡ accessNumber (c64Access u)
-  unfolding c64AccessCall
-  c64-access-is = look-is c64AccessCall (accessNumber (c64Access u)) u (done (answered (accessNumber (c64Access u)) u))
-
-  module _ (s : List ℕ) (hs : length s ≡ storageSize) where
-    pub set-enabled-is : (e : ℕ) → reuSetEnabled (packImage u) s e ≡ (0, packImage (setEnabled u s (flag e) .0), setEnabled u s (flag e) .1)
-    unfolding setEnabledCall
-    set-enabled-is e =
-        storage-is (λ (w : Reu) (t : List ℕ). setEnabledCall w t (flag e)) s 0 (setEnabled u s (flag e) .0) (setEnabled u s (flag e) .1)
-        (unrefused busSize (length s) refl hs _ (enabledAnswer (setEnabled u s (flag e))))
-
-    pub bus-action-is : (h p n : ℕ) → reuBusAction (packImage u) s h p n
-        ≡ (actionNumber (busAction u s (flag h) (flag p) n .0 .action), packImage (busAction u s (flag h) (flag p) n .0 .reu), busAction u s (flag h) (flag p) n .1)
-    unfolding busActionCall
-    bus-action-is h p n =
-        let g = busAction u s (flag h) (flag p) n in
-        storage-is (λ (w : Reu) (t : List ℕ). busActionCall w t (flag h) (flag p) n) s (actionNumber (g .0 .action)) (g .0 .reu) (g .1)
-        (unrefused busSize (length s) refl hs _ (grantedAnswer g))
-
-    module _ (m : List ℕ) (hm : length m ≡ busSize) where
-      pub tick-is : (n l : ℕ) → reuTickDma (packImage u) m s n l
-          ≡ (bitOf (tickDma u m s n (flag l) .0 .flag), packImage (tickDma u m s n (flag l) .0 .reu), tickDma u m s n (flag l) .1, tickDma u m s n (flag l) .2)
-      unfolding tickCall
-      tick-is n l =
-          let t = tickDma u m s n (flag l) in
-          both-is (λ (w : Reu) (b c : List ℕ). tickCall w b c n (flag l)) m s (bitOf (t .0 .flag)) (t .0 .reu) (t .1) (t .2)
-          (unrefused (length m) (length s) hm hs _ (tickedAnswer t))
-
-      pub cycle-is : (h n l p : ℕ) → reuCycle (packImage u) m s h n l p
-          ≡ (
-            bitOf (runReuCycle u m s (flag h) (flag p) n (flag l) .0 .flag),
-            packImage (runReuCycle u m s (flag h) (flag p) n (flag l) .0 .reu),
-            runReuCycle u m s (flag h) (flag p) n (flag l) .1,
-            runReuCycle u m s (flag h) (flag p) n (flag l) .2,
-          )
-      unfolding cycleCall
-      cycle-is h n l p =
-          let t = runReuCycle u m s (flag h) (flag p) n (flag l) in
-          both-is (λ (w : Reu) (b c : List ℕ). cycleCall w b c (flag h) (flag p) n (flag l)) m s (bitOf (t .0 .flag)) (t .0 .reu) (t .1) (t .2)
-          (unrefused (length m) (length s) hm hs _ (tickedAnswer t))
+pub bit-small : (b : Bool) → bitOf b < refusalUnit
+bit-small true = omega arith
+bit-small false = omega arith

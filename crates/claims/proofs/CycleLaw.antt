@@ -10,6 +10,7 @@ use lib.Dec.{eqb}
 use lib.Seq.{getD-set-other, getD-set-same}
 use native.Mathlib.Omega.{arith}
 use Rattle.controller.specs.declared.reu.Reu.{Reu}
+use Rattle.controller.specs.declared.reu.BusAnswer.{BusAnswer}
 use Rattle.controller.specs.declared.dma.DmaState.{DmaState}
 use Rattle.controller.specs.declared.dma.Dma.{Dma}
 use Rattle.controller.specs.declared.dma.Dma.the-variants.{Idle, Running}
@@ -20,16 +21,17 @@ use Rattle.controller.specs.declared.timing.ReuBusAction.{ReuBusAction}
 use Rattle.controller.specs.declared.timing.ReuBusAction.the-variants.{Cpu, Hold, Transfer}
 use Rattle.controller.specs.Bytes.{bit}
 use Rattle.controller.specs.Reu.{reuOf, reg, withRegs, withRelease, withRepeat, withDelay, withHistory, withDma}
+use Rattle.controller.specs.Memory.{putStorage}
 use Rattle.controller.specs.Timing.{actionForCycle, c64Access}
 use Rattle.controller.specs.Dma.{moved}
 use Rattle.controller.specs.FinishDma.{publishLiveCounters, finishDma, autoloaded, finishedStatus, finishedCommand, irqDue, updateIrq, counters}
-use Rattle.controller.specs.BusAction.{busAction, Granted, granted, decide, fall, plain, resumed, repeated}
+use Rattle.controller.specs.BusAction.{busAction, nextAction, rise, granted, decide, fall, plain, repeated}
 use Rattle.controller.specs.TickDma.{Ticked, ticked, tickDma, tickOf, tickRunning, tickByType, tickSwap, swapRead, swapWrite, advance}
 use Rattle.controller.specs.Cycle.{runReuCycle, cycleBy}
 
 -- whoever unfolds this unfolds all that a cycle of a swap computes
 cycle-computed : Unit {0}
-unfolding runReuCycle cycleBy busAction decide fall plain actionForCycle c64Access resumed repeated tickDma tickOf tickRunning tickByType tickSwap swapRead swapWrite advance publishLiveCounters
+unfolding runReuCycle cycleBy busAction nextAction rise decide fall plain actionForCycle c64Access repeated tickDma tickOf tickRunning tickByType tickSwap swapRead swapWrite advance publishLiveCounters
 cycle-computed = tt
 
 -- u with the fields that choose what a cycle does replaced
@@ -304,8 +306,8 @@ before-choice u refresh high delay = withRepeat (withHistory (ready u false refr
 -- by whether a delay is left, and whether it ends
 idle-choice : (u : Reu) (refresh high : Bool) (delay : ℕ) (m s : List ℕ) (n : ℕ) (low : Bool) (none last : Bool)
     → (v : Reu) → v ≡ before-choice u refresh high delay
-    → (g : Granted) → g ≡ cond none (granted Cpu v, s) (granted (cond last Transfer Hold) (withDelay v (delay - 1)), s)
-    → IdleStep u m s (cycleBy (g .0 .action) (g .0 .reu) m (g .1) n low)
+    → (g : BusAnswer) → g ≡ cond none (granted Cpu v) (granted (cond last Transfer Hold) (withDelay v (delay - 1)))
+    → IdleStep u m s (cycleBy (g .action) (g .reu) m (putStorage (g .put) s) n low)
 unfolding cycleBy tickDma tickOf
 idle-choice u refresh high delay m s n low false true v p g q = rw (q, p) (still u m s)
 idle-choice u refresh high delay m s n low false false v p g q = rw (q, p) (still u m s)
@@ -318,10 +320,10 @@ idle-ready u true refresh true delay m s n low = still u m s
 idle-ready u true refresh false delay m s n low = still u m s
 idle-ready u false refresh true delay m s n low =
     idle-choice u refresh true delay m s n low (eqb delay 0) (eqb delay 1) (before-choice u refresh true delay) refl
-    (busAction (ready u false refresh delay (u .attached) true Idle) s true true n) refl
+    (nextAction (ready u false refresh delay (u .attached) true Idle) true true n) refl
 idle-ready u false refresh false delay m s n low =
     idle-choice u refresh false delay m s n low (eqb delay 0) (eqb delay 1) (before-choice u refresh false delay) refl
-    (busAction (ready u false refresh delay (u .attached) false Idle) s true true n) refl
+    (nextAction (ready u false refresh delay (u .attached) false Idle) true true n) refl
 
 pub idle-step : (u : Reu) → u .dma ≡ Idle → (m s : List ℕ) (n : ℕ) (low : Bool) → IdleStep u m s (runReuCycle u m s true true n low)
 idle-step u h m s n low =

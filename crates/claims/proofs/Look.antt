@@ -1,28 +1,28 @@
 -- What the image's bytes and the answers of read and debug_register show of the controller.
 use Prim.Native.Nat.{ℕ, _/_, _%_, _<_}
-use mathlib.Core.Bool.{Bool, true, false, cond}
+use mathlib.Core.Bool.{Bool, true, cond}
 use mathlib.Core.Path.{_≡_, refl, sym, ap, _∙_}
 use mathlib.Core.Logic.{inl, inr}
-use mathlib.Core.List.{List, _++_}
+use mathlib.Core.List.{_++_}
 use lib.ListN.{length, getD, List·getD-append}
 use lib.Seq.{getD-append-add, getD-take}
 use lib.Bits.{or-mod, or-zero-r, and-mask}
-use lib.Dec.{eqb}
 use native.Mathlib.Omega.{arith}
-use borrow.Author.Tests.{eq-eqb, ne-eqb, eqb-false, lt-ltb}
+use borrow.Author.Tests.{eq-eqb, lt-ltb}
 use Rattle.controller.specs.declared.dma.Dma.{Dma}
 use Rattle.controller.specs.declared.dma.Dma.the-variants.{Idle, Running}
 use Rattle.controller.specs.Bytes.{bit}
 use Rattle.controller.specs.Reu.{reg}
 use Rattle.controller.proofs.Bits.{bit-zero, zero-bit}
-use Rattle.controller.specs.Registers.{readAt, readRegister, debugRegister}
+use Rattle.controller.specs.Registers.{readAt, readRegister, debugRegister as core-debugRegister}
 use Rattle.image.specs.Layout.{packImage, reuAt, present, middleBytes, transferBytes}
 use Rattle.reu.specs.Exports.{reuDebugRegister}
-use Rattle.claims.specs.Calls.{Held}
+use Rattle.claims.specs.Calls.{Held, debugRegister, read, other}
 use Rattle.claims.specs.SwapTwice.{byte, Start, OfBlock, Shown, Ended}
+use Rattle.image.proofs.Sound.{Sound}
 use Rattle.image.proofs.Valid.{open-sound, pack-back}
-use Rattle.claims.proofs.Accepted.{read-is, debug-is}
-use Rattle.claims.proofs.States.{St, Good, held}
+use Rattle.claims.proofs.States.{St, held, Ready, ready-of}
+use Rattle.claims.proofs.Accepted.{alone, answer-is}
 use Rattle.claims.proofs.RegisterLaw.{Value, Seven, two, three, four, five, six, seven, eight, is-seven}
 
 upper-bits : (v : ℕ) → v < 256 → v / 64 % 2 ≡ 0 → v / 128 % 2 ≡ 0 → v / 64 ≡ 0
@@ -33,9 +33,9 @@ upper-bits v h a b =
     two-bits : (q : ℕ) → q < 4 → q % 2 ≡ 0 → q / 2 % 2 ≡ 0 → q ≡ 0
     two-bits q h a b = omega arith
 
-module _ (x : St) (g : Good x) where
+module _ (x : St) (sound : Sound (x .u)) where
   regs-11 : length (x .u .regs) ≡ 11
-  regs-11 = g .sound .regs .len
+  regs-11 = sound .regs .len
 
   pub reg-byte : (i : ℕ) → i < 11 → byte (held x) i ≡ reg (x .u) i
   unfolding packImage
@@ -72,15 +72,15 @@ module _ (x : St) (g : Good x) where
   read-shows eight v e = (ap (λ (y : ℕ). y % 8) e, λ ne. e)
 
   pub debug-value : (r : ℕ) → r < 11 → reuDebugRegister (packImage (x .u)) r ≡ reg (x .u) r
-  unfolding debugRegister
-  debug-value r h = debug-is (x .u) (g .sound) r ∙ ap (λ (b : Bool). cond b (reg (x .u) r) 255) (lt-ltb r 11 h)
+  unfolding core-debugRegister
+  debug-value r h = answer-is x sound (other (debugRegister r)) (alone x sound) ∙ ap (λ (b : Bool). cond b (reg (x .u) r) 255) (lt-ltb r 11 h)
 
   pub shown-value : (r v : ℕ) → OfBlock r → Shown (held x) r v → Value (reg (x .u)) r v
   unfolding readRegister
   shown-value r v (lo, hi) (inl e) =
       let small : r % 32 ≡ r = omega arith in
       read-shows (is-seven r lo hi) v
-      (e ∙ ap (λ (y : ℕ × List ℕ). y .0) (read-is (x .u) (g .sound) r) ∙ ap (λ (i : ℕ). readAt (x .u) i .value) (and-mask r 5 ∙ small))
+      (e ∙ answer-is x sound (read r) (alone x sound) ∙ ap (λ (i : ℕ). readAt (x .u) i .value) (and-mask r 5 ∙ small))
   shown-value r v (lo, hi) (inr e) =
       let z : v ≡ reg (x .u) r = e ∙ debug-value r (omega arith) in
       (ap (λ (y : ℕ). y % 8) z, λ ne. z)
@@ -97,15 +97,11 @@ abbrev pub opened : Held → St
 opened k = record { u = reuAt (k .image); m = k .bus; s = k .storage }
 
 module _ (k : Held) (st : Start k) where
-  pub opened-good : Good (opened k)
-  opened-good =
-      record {
-        sound = open-sound (k .image) (st .image-bytes) (st .accepted);
-        bus-bytes = st .memories .bus-bytes;
-        storage-bytes = st .memories .storage-bytes;
-        bus-size = st .memories .bus-size;
-        storage-size = st .memories .storage-size;
-      }
+  pub opened-ready : Ready (opened k)
+  opened-ready =
+      let mem = st .memories in
+      ready-of (opened k) (record { sound = open-sound (k .image) (st .image-bytes) (st .accepted); bus = mem .bus-bytes; storage = mem .storage-bytes })
+      (mem .bus-size) (mem .storage-size)
 
   pub opened-is : held (opened k) ≡ k
   opened-is = λ i. record { image = pack-back (k .image) (st .image-bytes) (st .accepted) i; bus = k .bus; storage = k .storage }

@@ -4,6 +4,7 @@ use mathlib.Core.Bool.{true}
 use mathlib.Core.Path.{_≡_, refl, sym, ap, _∙_, subst, subst₂, subst₃, fun-ext}
 use mathlib.Core.Logic.{_≢_}
 use mathlib.Core.List.{List, [], _∷_, _++_, append-nil}
+use lib.ListN.{length}
 use native.Mathlib.Omega.{arith}
 use Rattle.controller.specs.declared.dma.Dma.the-variants.{Idle}
 use Rattle.controller.specs.Bytes.{word, long}
@@ -11,11 +12,13 @@ use Rattle.controller.specs.Reu.{reg}
 use Rattle.controller.specs.Dma.{lengthOf}
 use Rattle.claims.specs.Calls.{Held, Kind, NumbersFit, Call, leaves, accepts, next, after, Each, count}
 use Rattle.claims.specs.SwapTwice.{IsIdle, Start, Step, cycles, reads, writes, AnyStep, NoWrite, register, wrote, granted, High, Run, OfBlock, Shown, ShownAll, busPlace, storagePlace, blockLength, Exchanged, SwapsAtOnce, Rewrites, Ended, OnceEnded, Swap, Parts, listOf, atStart, atRestart, RunA, RunB, EndsAt, Outcome}
+use Rattle.image.proofs.Sound.{Sound}
 use Rattle.claims.proofs.RegisterLaw.{read-law, Value, pair-done}
 use Rattle.claims.proofs.Exchange.{Exch, exch-twice}
-use Rattle.claims.proofs.States.{St, Good, held, on, stepOf, leaves-is, good-step}
+use Rattle.claims.proofs.States.{St, Good, held, on, stepOf, numberOf, good-step, Ready, ready-of, good-of}
+use Rattle.claims.proofs.Accepted.{leaves-is}
 use Rattle.claims.proofs.Walk.{after-append, each-left, each-right, each-both, each-of-all, widen, At, each-at, next-is, Walked, walk}
-use Rattle.claims.proofs.Look.{idle-byte, shown-value, Idling, opened, opened-good, opened-is, opened-idling}
+use Rattle.claims.proofs.Look.{idle-byte, shown-value, Idling, opened, opened-ready, opened-is, opened-idling}
 use Rattle.claims.proofs.Swap.{onBus, onStorage, Allowed, idle-high, c64-of, exp-of, len-of, Swapping, SwapFrom, OverFrom, over-from, ended-from, step-from, begins}
 
 -- ---- what is known of each call, joined
@@ -64,16 +67,16 @@ same-bytes x hi (reads any) e = (refl, refl)
 same-bytes x hi (writes any) e = (refl, refl)
 same-bytes x hi (cycles {high = h} {number = n} {low = l} {phi1 = p}) e = let st = idle-high x h n l p hi e in (st .bus, st .storage)
 
-still-idle : (m s : List ℕ) (x : St) (d : Kind) → Good x → NumbersFit d → IdleCall (held x) (on x d) → StillIdle m s 0 (λ r. 0) x → StillIdle m s 0 (λ r. 0) (stepOf d x)
-still-idle m s x d good fi c r =
+still-idle : (m s : List ℕ) (x : St) (d : Kind) → Good x → numberOf d x ≡ 0 → NumbersFit d → IdleCall (held x) (on x d) → StillIdle m s 0 (λ r. 0) x → StillIdle m s 0 (λ r. 0) (stepOf d x)
+still-idle m s x d good z fi c r =
     let b = same-bytes x (c .0) (c .1) (r .0) in
-    (idle-byte (stepOf d x) (good-step x good d fi) (subst IsIdle (leaves-is x good d) (c .2)), b .0 ∙ r .1, b .1 ∙ r .2)
+    (idle-byte (stepOf d x) (good-step x good d fi .sound) (subst IsIdle (leaves-is x (good .sound) d z) (c .2)), b .0 ∙ r .1, b .1 ∙ r .2)
 
 -- ---- one swap, and the calls up to the next start
 
 record FromStart (k : Held) (x : St) (c : Call) (cs : List Call) : Type 0 where
   same : k ≡ held x
-  good : Good x
+  ready : Ready x
   idling : Idling x
   ok : accepts c ≡ true
   swaps : SwapsAtOnce (c .kind)
@@ -82,13 +85,13 @@ record FromStart (k : Held) (x : St) (c : Call) (cs : List Call) : Type 0 where
   calls : Each (At (Swapping x)) (next k c) cs
 
 -- a swap of a run, from a state whose registers W goes by
-from-start : (W : ℕ → ℕ → Type 0) (k : Held) (x : St) (c : Call) (cs : List Call) → k ≡ held x → Good x → Idling x
+from-start : (W : ℕ → ℕ → Type 0) (k : Held) (x : St) (c : Call) (cs : List Call) → k ≡ held x → Ready x → Idling x
     → ((d v : ℕ) → W d v → Allowed (reg (x .u)) d v) → Each (At HighAt) k (c ∷ cs) → Swap W k c cs → FromStart k x c cs
-from-start W k x c cs e good idling f high sw =
+from-start W k x c cs e ready idling f high sw =
     let a = high .0 (sw .accepted) in
     record {
       same = e;
-      good = good;
+      ready = ready;
       idling = idling;
       ok = sw .accepted;
       swaps = sw .starts;
@@ -104,28 +107,28 @@ module _ (k : Held) (x : St) (c : Call) (cs : List Call) (f : FromStart k x c cs
     to : St
     same : after (next k c) done ≡ held to
     good : Good to
-    inv : SwapFrom x (f .good) (count granted done + 0) (λ r. count (wrote r) done + 0) to
+    inv : SwapFrom x (f .ready) (count granted done + 0) (λ r. count (wrote r) done + 0) to
 
   reached : (done left : List Call) → cs ≡ done ++ left → Reached done
   reached done left split =
-      let begun : next k c ≡ held (stepOf (c .kind) x) = ap (λ (h : Held). next h c) (f .same) ∙ next-is x c (f .good) (f .ok) (f .lent ∙ f .same) in
-      let w = walk (SwapFrom x (f .good)) (Swapping x) (step-from x (f .good)) done (stepOf (c .kind) x) 0 (λ r. 0)
-      (good-step x (f .good) (c .kind) (f .numbers)) (begins x (f .good) (f .idling) (f .swaps))
+      let begun : next k c ≡ held (stepOf (c .kind) x) = ap (λ (h : Held). next h c) (f .same) ∙ next-is x c (f .ready .sound) (f .ok) (f .lent ∙ f .same) in
+      let w = walk (SwapFrom x (f .ready)) (Swapping x) (λ j g y d good. step-from x (f .ready) j g y d (good .sound)) done (stepOf (c .kind) x) 0 (λ r. 0)
+      (good-step x (good-of x (f .ready)) (c .kind) (f .numbers)) (begins x (f .ready) (f .idling) (f .swaps))
       (each-left (At (Swapping x)) (held (stepOf (c .kind) x)) done left
       (subst₂ (λ (h : Held) (l : List Call). Each (At (Swapping x)) h l) begun split (f .calls))) in
       record { to = w .to; same = ap (λ (h : Held). after h done) begun ∙ w .same; good = w .good; inv = w .inv }
 
   over-at : (done : List Call) (r : Reached done) → Ended (after (next k c) done)
-      → OverFrom x (f .good) (count granted done + 0) (λ q. count (wrote q) done + 0) (r .to)
+      → OverFrom x (f .ready) (count granted done + 0) (λ q. count (wrote q) done + 0) (r .to)
   over-at done r en =
-      over-from x (f .good) (count granted done + 0) (λ q. count (wrote q) done + 0) (r .to) (r .good) (r .inv) (subst Ended (r .same) en)
+      over-from x (f .ready) (count granted done + 0) (λ q. count (wrote q) done + 0) (r .to) (r .good .sound) (r .inv) (subst Ended (r .same) en)
 
   ends-at : (n : ℕ) → len-of (x .u) ≡ n → EndsAt n k c cs
   ends-at n e done left split =
       let r = reached done left split in (
         (λ en. let o = over-at done r en in omega (arith, o .total)),
         (λ q. subst Ended (sym (r .same))
-            (ended-from x (f .good) (count granted done + 0) (λ j. count (wrote j) done + 0) (r .to) (r .good) (r .inv) (omega arith))),
+            (ended-from x (f .ready) (count granted done + 0) (λ j. count (wrote j) done + 0) (r .to) (r .good .sound) (r .inv) (omega arith))),
       )
 
   -- the whole list
@@ -138,9 +141,9 @@ module _ (k : Held) (x : St) (c : Call) (cs : List Call) (f : FromStart k x c cs
 same-places : (e e′ lo hi b b′ : ℕ) → b′ % 8 ≡ b % 8 → e ≡ long lo hi b → e′ ≡ long lo hi b′ → (i : ℕ) → onStorage e′ i ≡ onStorage e i
 same-places e e′ lo hi b b′ q p p′ i = omega arith
 
-module _ (k : Held) (x : St) (e : k ≡ held x) (good : Good x) (w : ℕ → ℕ) (shown : ShownAll k w) where
+module _ (k : Held) (x : St) (e : k ≡ held x) (sound : Sound (x .u)) (w : ℕ → ℕ) (shown : ShownAll k w) where
   value : (r : ℕ) → OfBlock r → Value (reg (x .u)) r (w r)
-  value r b = shown-value x good r (w r) b (subst (λ (h : Held). Shown h r (w r)) e (shown r b))
+  value r b = shown-value x sound r (w r) b (subst (λ (h : Held). Shown h r (w r)) e (shown r b))
 
   shows : (r : ℕ) → OfBlock r → r ≢ 6 → w r ≡ reg (x .u) r
   shows r b ne = value r b .1 ne
@@ -184,10 +187,10 @@ module _ (a : Held) (p : Parts) (sa : Start a) (ra : RunA a p) where
   high-last = each-right (At HighAt) (next (atStart a p) (p .start)) (p .middle) (p .restart ∷ p .last) (high-tail .1)
 
   -- up to the first start
-  first-part : Walked (Resting (a .bus) (a .storage)) RestingCall (λ k g x d good fi c r. rest (a .bus) (a .storage) x (c .0) (c .1) r) (opened a) (p .before) 0 (λ r. 0)
+  first-part : Walked (Resting (a .bus) (a .storage)) RestingCall (λ k g x d good z fi c r. rest (a .bus) (a .storage) x (c .0) (c .1) r) (opened a) (p .before) 0 (λ r. 0)
   first-part =
-      walk (Resting (a .bus) (a .storage)) RestingCall (λ k g x d good fi c r. rest (a .bus) (a .storage) x (c .0) (c .1) r) (p .before) (opened a) 0 (λ r. 0)
-      (opened-good a sa) (opened-idling a sa, refl, refl)
+      walk (Resting (a .bus) (a .storage)) RestingCall (λ k g x d good z fi c r. rest (a .bus) (a .storage) x (c .0) (c .1) r) (p .before) (opened a) 0 (λ r. 0)
+      (good-of (opened a) (opened-ready a sa)) (opened-idling a sa, refl, refl)
       (subst (λ (h : Held). Each (At RestingCall) h (p .before)) (sym (opened-is a sa))
       (joined HighAt (λ h c. Step (Unit {0}) NoWrite (c .kind)) RestingCall (λ h c hi q. (hi, q)) a (p .before)
       (each-left (At HighAt) a (p .before) (p .start ∷ after-start) all-high) (ra .before)))
@@ -211,14 +214,17 @@ module _ (a : Held) (p : Parts) (sa : Start a) (ra : RunA a p) where
   unfolding x₁
   good₁ = first-part .good
 
+  ready₁ : Ready x₁
+  ready₁ = ready-of x₁ good₁ (ap length bus₁ ∙ sa .memories .bus-size) (ap length storage₁ ∙ sa .memories .storage-size)
+
   idling₁ : Idling x₁
   unfolding x₁
   idling₁ = first-part .inv .0
 
   first-swap : FromStart (atStart a p) x₁ (p .start) (p .middle)
   first-swap =
-      from-start (Rewrites (atStart a p)) (atStart a p) x₁ (p .start) (p .middle) start-is good₁ idling₁
-      (λ d v r. (r .0, shown-value x₁ good₁ (register d) v (r .0) (subst (λ (h : Held). Shown h (register d) v) start-is (r .1))))
+      from-start (Rewrites (atStart a p)) (atStart a p) x₁ (p .start) (p .middle) start-is ready₁ idling₁
+      (λ d v r. (r .0, shown-value x₁ (good₁ .sound) (register d) v (r .0) (subst (λ (h : Held). Shown h (register d) v) start-is (r .1))))
       (each-left (At HighAt) (atStart a p) (p .start ∷ p .middle) (p .restart ∷ p .last) high-tail) (ra .first)
 
   middle-part : Reached (atStart a p) x₁ (p .start) (p .middle) first-swap (p .middle)
@@ -227,7 +233,7 @@ module _ (a : Held) (p : Parts) (sa : Start a) (ra : RunA a p) where
   x₃ : St
   x₃ = middle-part .to
 
-  middle-over : OverFrom x₁ (first-swap .good) (count granted (p .middle) + 0) (λ q. count (wrote q) (p .middle) + 0) x₃
+  middle-over : OverFrom x₁ (first-swap .ready) (count granted (p .middle) + 0) (λ q. count (wrote q) (p .middle) + 0) x₃
   unfolding x₃
   middle-over = over-at (atStart a p) x₁ (p .start) (p .middle) first-swap (p .middle) middle-part (ra .first .ends)
 
@@ -251,11 +257,17 @@ module _ (a : Held) (p : Parts) (sa : Start a) (ra : RunA a p) where
       same-places (exp-of (x₁ .u)) (exp-of (x₃ .u)) (reg (x₁ .u) 4) (reg (x₁ .u) 5) (reg (x₁ .u) 6) (reg (x₃ .u) 6)
       (middle-over .rewritten .bank (omega (arith, once 6 (omega arith)))) refl (λ j. long (d .0 j) (d .1 j) (reg (x₃ .u) 6)) i
 
+  ready₃ : Ready x₃
+  unfolding x₃
+  ready₃ =
+      ready-of x₃ (middle-part .good) (middle-over .exch .bus-size ∙ ready₁ .bus .size) (middle-over .exch .storage-size ∙ ready₁ .storage .size)
+
   -- the second swap
   second-swap : FromStart (atRestart a p) x₃ (p .restart) (p .last)
   unfolding x₃
   second-swap =
-      from-start NoWrite (atRestart a p) x₃ (p .restart) (p .last) (middle-part .same) (middle-part .good)
+      from-start NoWrite (atRestart a p) x₃ (p .restart) (p .last) (middle-part .same)
+      ready₃
       (record { idle = middle-over .quiet .idle; attached = middle-over .quiet .attached; free = middle-over .free })
       (λ d v none. absurd none) high-last (ra .second)
 
@@ -285,11 +297,11 @@ module _ (a : Held) (p : Parts) (sa : Start a) (ra : RunA a p) where
         let r = reached (atStart a p) x₁ (p .start) (p .middle) first-swap done left split in
         let ex = over-at (atStart a p) x₁ (p .start) (p .middle) first-swap done r en .exch in
         subst (Exchanged w a) (sym (r .same))
-        (shown-block (atStart a p) x₁ start-is good₁ w shown a (held (r .to))
+        (shown-block (atStart a p) x₁ start-is (good₁ .sound) w shown a (held (r .to))
         (subst₂ (λ (m s : List ℕ). Exch (onBus (c64-of (x₁ .u))) (onStorage (exp-of (x₁ .u))) (len-of (x₁ .u)) m s (r .to .m) (r .to .s)) bus₁ storage₁ ex))
 
     length-is : len-of (x₁ .u) ≡ blockLength w
-    length-is = block-length (atStart a p) x₁ start-is good₁ w shown
+    length-is = block-length (atStart a p) x₁ start-is (good₁ .sound) w shown
 
     first-length : EndsAt (blockLength w) (atStart a p) (p .start) (p .middle)
     first-length = ends-at (atStart a p) x₁ (p .start) (p .middle) first-swap (blockLength w) length-is
@@ -300,10 +312,10 @@ module _ (a : Held) (p : Parts) (sa : Start a) (ra : RunA a p) where
 -- ---- run B
 
 module _ (b : Held) (calls : List Call) (sb : Start b) (rb : RunB b calls) where
-  idle-part : Walked (StillIdle (b .bus) (b .storage)) IdleCall (λ k g x d good fi c r. still-idle (b .bus) (b .storage) x d good fi c r) (opened b) calls 0 (λ r. 0)
+  idle-part : Walked (StillIdle (b .bus) (b .storage)) IdleCall (λ k g x d good z fi c r. still-idle (b .bus) (b .storage) x d good z fi c r) (opened b) calls 0 (λ r. 0)
   idle-part =
-      walk (StillIdle (b .bus) (b .storage)) IdleCall (λ k g x d good fi c r. still-idle (b .bus) (b .storage) x d good fi c r) calls (opened b) 0 (λ r. 0)
-      (opened-good b sb) (opened-idling b sb .idle, refl, refl)
+      walk (StillIdle (b .bus) (b .storage)) IdleCall (λ k g x d good z fi c r. still-idle (b .bus) (b .storage) x d good z fi c r) calls (opened b) 0 (λ r. 0)
+      (good-of (opened b) (opened-ready b sb)) (opened-idling b sb .idle, refl, refl)
       (subst (λ (h : Held). Each (At IdleCall) h calls) (sym (opened-is b sb))
       (joined (λ h c. High (c .kind) × AnyStep (c .kind)) (λ h c. IsIdle (leaves c)) IdleCall (λ h c q i. (q .0, q .1, i)) b calls
       (joined HighAt (λ h c. AnyStep (c .kind)) (λ h c. High (c .kind) × AnyStep (c .kind)) (λ h c hi q. (hi, q)) b calls

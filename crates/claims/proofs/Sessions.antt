@@ -10,6 +10,9 @@ use lib.Dec.{eqb}
 use native.Mathlib.Omega.{arith}
 use borrow.Author.Tests.{eq-eqb, ne-eqb}
 use Rattle.controller.specs.declared.reu.Reu.{Reu}
+use Rattle.controller.specs.declared.reu.TickAnswer.{TickAnswer}
+use Rattle.controller.specs.declared.memory.Put.the-variants.{Nothing}
+use Rattle.controller.specs.Memory.{putBus, putStorage}
 use Rattle.controller.specs.Reu.{withTail}
 use Rattle.controller.specs.Registers.{readRegister, writeRegister, writeCommand, debugRegister as core-debugRegister}
 use Rattle.controller.specs.Timing.{actionForCycle, c64Access as core-c64Access}
@@ -17,7 +20,7 @@ use Rattle.controller.specs.Dma.{moved, typeOf, lengthOf}
 use Rattle.controller.specs.StartDma.{startDma, triggerFf00 as core-triggerFf00, requested}
 use Rattle.controller.specs.FinishDma.{publishLiveCounters, finishDma, autoloaded, updateIrq}
 use Rattle.controller.specs.Enable.{newReu, connected, setEnabled as core-setEnabled}
-use Rattle.controller.specs.BusAction.{busAction as core-busAction, decide, fall, fallOnRead, fallOnSwapWrite, plain, fallOnWrite, resumed, repeated}
+use Rattle.controller.specs.BusAction.{busAction as core-busAction, nextAction, rise, decide, fall, fallOnRead, fallOnSwapWrite, plain, fallOnWrite, repeated}
 use Rattle.controller.specs.TickDma.{tickDma as core-tickDma, tickOf, tickRunning, tickByType, tickStore, tickRecall, tickSwap, tickVerify, tickTail, swapRead, swapWrite, tickRefresh, advance, withError}
 use Rattle.controller.specs.Cycle.{runReuCycle, cycleBy}
 use Rattle.controller.specs.Calls.{actionNumber, readCall}
@@ -27,12 +30,13 @@ use Rattle.image.specs.Open.{openImage}
 use Rattle.image.proofs.Opening.{opened-is}
 use Rattle.image.proofs.Packed.{open-pack}
 use Rattle.reu.specs.Exports.{flag}
-use Rattle.claims.specs.Calls.{Held, Memories, setEnabled, triggerFf00, Kind, read, write, cycle, other, NumbersFit, Done, does, grantOf}
+use Rattle.claims.specs.Calls.{Held, Memories, setEnabled, triggerFf00, busAction, debugRegister, Kind, read, write, cycle, other, NumbersFit, Done, does, grantOf}
 use Rattle.claims.specs.Sessions.{play, answers, grants, shows, eleven, level, begin, ticks, r4, r5, r10, r13, r14, r16, new, enabled, run, Table, Sessions}
-use Rattle.image.proofs.Sound.{Sound, sound-fresh, sound-connected}
+use Rattle.image.proofs.Sound.{Sound}
+use Rattle.image.proofs.SoundCalls.{sound-fresh}
 use Rattle.image.proofs.Valid.{sound-well, sound-typed}
-use Rattle.claims.proofs.Accepted.{bus-action-is, debug-is}
-use Rattle.claims.proofs.States.{St, Good, held, stepOf, valueOf, does-is, leaves-is, good-step}
+use Rattle.claims.proofs.States.{St, held, stepOf, valueOf, Ready, ready-of, ready-step}
+use Rattle.claims.proofs.Accepted.{does-is, ready-number}
 
 -- ---- scripts, on the controller
 
@@ -58,31 +62,35 @@ abbrev grantsAt : List Kind → St → List ℕ
 grantsAt [] x = []
 grantsAt (d ∷ ds) x = grantAt d x ∷ grantsAt ds (stepOf d x)
 
-good-to : (ds : List Kind) (x : St) → Good x → AllFit ds → Good (to ds x)
-good-to [] x g f = g
-good-to (d ∷ ds) x g f = good-to ds (stepOf d x) (good-step x g d (f .0)) (f .1)
+ready-to : (ds : List Kind) (x : St) → Ready x → AllFit ds → Ready (to ds x)
+ready-to [] x g f = g
+ready-to (d ∷ ds) x g f = ready-to ds (stepOf d x) (ready-step x g d (f .0)) (f .1)
 
-play-is : (ds : List Kind) (x : St) → Good x → AllFit ds → play ds (held x) ≡ held (to ds x)
+does-ready : (d : Kind) (x : St) → Ready x → does d (held x) ≡ record { answer = valueOf d x; left = held (stepOf d x) }
+does-ready d x g = does-is x (g .sound) d (ready-number x g d)
+
+play-is : (ds : List Kind) (x : St) → Ready x → AllFit ds → play ds (held x) ≡ held (to ds x)
 play-is [] x g f = refl
-play-is (d ∷ ds) x g f = ap (play ds) (leaves-is x g d) ∙ play-is ds (stepOf d x) (good-step x g d (f .0)) (f .1)
+play-is (d ∷ ds) x g f =
+    ap (λ (e : Done). play ds (e .left)) (does-ready d x g) ∙ play-is ds (stepOf d x) (ready-step x g d (f .0)) (f .1)
 
-answers-are : (ds : List Kind) (x : St) → Good x → AllFit ds → answers ds (held x) ≡ values ds x
+answers-are : (ds : List Kind) (x : St) → Ready x → AllFit ds → answers ds (held x) ≡ values ds x
 answers-are [] x g f = refl
 answers-are (d ∷ ds) x g f =
-    ap (λ (e : Done). e .answer ∷ answers ds (e .left)) (does-is x g d)
-    ∙ ap (λ (l : List ℕ). valueOf d x ∷ l) (answers-are ds (stepOf d x) (good-step x g d (f .0)) (f .1))
+    ap (λ (e : Done). e .answer ∷ answers ds (e .left)) (does-ready d x g)
+    ∙ ap (λ (l : List ℕ). valueOf d x ∷ l) (answers-are ds (stepOf d x) (ready-step x g d (f .0)) (f .1))
 
-grant-is : (d : Kind) (x : St) → Good x → grantOf d (held x) ≡ grantAt d x
+grant-is : (d : Kind) (x : St) → Ready x → grantOf d (held x) ≡ grantAt d x
 grant-is (read a) x g = refl
 grant-is (write a v) x g = refl
-grant-is (cycle h n l p) x g = ap (λ (y : ℕ × List ℕ × List ℕ). y .0) (bus-action-is (x .u) (g .sound) (x .s) (g .storage-size) h p n)
+grant-is (cycle h n l p) x g = ap (λ (e : Done). e .answer) (does-ready (other (busAction h p n)) x g)
 grant-is (other o) x g = refl
 
-grants-are : (ds : List Kind) (x : St) → Good x → AllFit ds → grants ds (held x) ≡ grantsAt ds x
+grants-are : (ds : List Kind) (x : St) → Ready x → AllFit ds → grants ds (held x) ≡ grantsAt ds x
 grants-are [] x g f = refl
 grants-are (d ∷ ds) x g f =
-    (λ i. grant-is d x g i ∷ grants ds (leaves-is x g d i))
-    ∙ ap (λ (l : List ℕ). grantAt d x ∷ l) (grants-are ds (stepOf d x) (good-step x g d (f .0)) (f .1))
+    (λ i. grant-is d x g i ∷ grants ds (does-ready d x g i .left))
+    ∙ ap (λ (l : List ℕ). grantAt d x ∷ l) (grants-are ds (stepOf d x) (ready-step x g d (f .0)) (f .1))
 
 -- ---- what is looked at
 
@@ -91,9 +99,9 @@ elevenOf u =
     core-debugRegister u 0 ∷ core-debugRegister u 1 ∷ core-debugRegister u 2 ∷ core-debugRegister u 3 ∷ core-debugRegister u 4 ∷ core-debugRegister u 5 ∷
     core-debugRegister u 6 ∷ core-debugRegister u 7 ∷ core-debugRegister u 8 ∷ core-debugRegister u 9 ∷ core-debugRegister u 10 ∷ []
 
-module _ (x : St) (g : Good x) where
+module _ (x : St) (g : Ready x) where
   shows-is : (r : ℕ) → shows (held x) r ≡ core-debugRegister (x .u) r
-  shows-is r = debug-is (x .u) (g .sound) r
+  shows-is r = ap (λ (e : Done). e .answer) (does-ready (other (debugRegister r)) x g)
 
   eleven-is : eleven (held x) ≡ elevenOf (x .u)
   eleven-is =
@@ -115,33 +123,33 @@ abbrev start : List ℕ → List ℕ → St
 start m s = record { u = connected newReu; m = m; s = s }
 
 module _ (m s : List ℕ) (mem : Memories m s) where
-  good-with : (u : Reu) → Sound u → Good (record { u = u; m = m; s = s })
-  good-with u h =
-      record { sound = h; bus-bytes = mem .bus-bytes; storage-bytes = mem .storage-bytes; bus-size = mem .bus-size; storage-size = mem .storage-size }
+  ready-with : (u : Reu) → Sound u → Ready (record { u = u; m = m; s = s })
+  ready-with u h =
+      ready-of (record { u = u; m = m; s = s }) (record { sound = h; bus = mem .bus-bytes; storage = mem .storage-bytes }) (mem .bus-size) (mem .storage-size)
 
-  good-fresh : Good (fresh m s)
-  good-fresh = good-with newReu (sound-fresh false false)
+  ready-fresh : Ready (fresh m s)
+  ready-fresh = ready-with newReu (sound-fresh false false)
 
   fresh-answers : (ds : List Kind) → AllFit ds → answers ds (new m s) ≡ values ds (fresh m s)
-  fresh-answers ds f = answers-are ds (fresh m s) good-fresh f
+  fresh-answers ds f = answers-are ds (fresh m s) ready-fresh f
 
   fresh-shows : (ds : List Kind) → AllFit ds → (r : ℕ) → shows (play ds (new m s)) r ≡ core-debugRegister (to ds (fresh m s) .u) r
   fresh-shows ds f r =
-      ap (λ (h : Held). shows h r) (play-is ds (fresh m s) good-fresh f) ∙ shows-is (to ds (fresh m s)) (good-to ds (fresh m s) good-fresh f) r
+      ap (λ (h : Held). shows h r) (play-is ds (fresh m s) ready-fresh f) ∙ shows-is (to ds (fresh m s)) (ready-to ds (fresh m s) ready-fresh f) r
 
-  good-start : Good (start m s)
-  good-start = good-with (connected newReu) sound-connected
+  ready-start : Ready (start m s)
+  ready-start = ready-with (connected newReu) (sound-fresh true true)
 
   start-is : enabled m s ≡ held (start m s)
   unfolding core-setEnabled
-  start-is = λ i. record { image = leaves-is (fresh m s) good-fresh (other (setEnabled 1)) i .image; bus = m; storage = s }
+  start-is = λ i. record { image = does-ready (other (setEnabled 1)) (fresh m s) ready-fresh i .left .image; bus = m; storage = s }
 
   module _ (ds : List Kind) (f : AllFit ds) where
     played : run m s ds ≡ held (to ds (start m s))
-    played = ap (play ds) start-is ∙ play-is ds (start m s) good-start f
+    played = ap (play ds) start-is ∙ play-is ds (start m s) ready-start f
 
-    good-played : Good (to ds (start m s))
-    good-played = good-to ds (start m s) good-start f
+    ready-played : Ready (to ds (start m s))
+    ready-played = ready-to ds (start m s) ready-start f
 
     bus-of : run m s ds .bus ≡ to ds (start m s) .m
     bus-of = ap (λ (h : Held). h .bus) played
@@ -150,26 +158,26 @@ module _ (m s : List ℕ) (mem : Memories m s) where
     storage-of = ap (λ (h : Held). h .storage) played
 
     shows-of : (r : ℕ) → shows (run m s ds) r ≡ core-debugRegister (to ds (start m s) .u) r
-    shows-of r = ap (λ (h : Held). shows h r) played ∙ shows-is (to ds (start m s)) good-played r
+    shows-of r = ap (λ (h : Held). shows h r) played ∙ shows-is (to ds (start m s)) ready-played r
 
     eleven-of : eleven (run m s ds) ≡ elevenOf (to ds (start m s) .u)
-    eleven-of = ap eleven played ∙ eleven-is (to ds (start m s)) good-played
+    eleven-of = ap eleven played ∙ eleven-is (to ds (start m s)) ready-played
 
     level-of : level (run m s ds) ≡ to ds (start m s) .u .«irq_pending»
-    level-of = ap level played ∙ level-is (to ds (start m s)) good-played
+    level-of = ap level played ∙ level-is (to ds (start m s)) ready-played
 
     -- and calls after it
     answers-of : (es : List Kind) → AllFit es → answers es (run m s ds) ≡ values es (to ds (start m s))
-    answers-of es fe = ap (answers es) played ∙ answers-are es (to ds (start m s)) good-played fe
+    answers-of es fe = ap (answers es) played ∙ answers-are es (to ds (start m s)) ready-played fe
 
     grants-of : (es : List Kind) → AllFit es → grants es (run m s ds) ≡ grantsAt es (to ds (start m s))
-    grants-of es fe = ap (grants es) played ∙ grants-are es (to ds (start m s)) good-played fe
+    grants-of es fe = ap (grants es) played ∙ grants-are es (to ds (start m s)) ready-played fe
 
 -- ---- the table
 
 -- whoever unfolds this unfolds all that a session computes
 calls-computed : Unit {0}
-unfolding runReuCycle cycleBy core-busAction decide fall fallOnRead fallOnSwapWrite plain fallOnWrite actionForCycle core-c64Access resumed repeated core-tickDma tickOf tickRunning tickByType tickStore tickRecall tickSwap tickVerify tickTail swapRead swapWrite tickRefresh advance publishLiveCounters readRegister writeRegister writeCommand core-debugRegister startDma core-triggerFf00 requested typeOf lengthOf finishDma autoloaded updateIrq
+unfolding runReuCycle cycleBy core-busAction nextAction rise decide fall fallOnRead fallOnSwapWrite plain fallOnWrite actionForCycle core-c64Access repeated core-tickDma tickOf tickRunning tickByType tickStore tickRecall tickSwap tickVerify tickTail swapRead swapWrite tickRefresh advance publishLiveCounters readRegister writeRegister writeCommand core-debugRegister startDma core-triggerFf00 requested typeOf lengthOf finishDma autoloaded updateIrq
 calls-computed = tt
 
 -- two bytes stored, at the last place and at the first
@@ -184,21 +192,22 @@ last-and-first s a b h = (
 asked : ℕ → Reu
 asked n = to (begin 0 0 n 0x93) (start [] []) .u
 
-compared : ℕ → Bool → Reu
-compared n equal = advance (withError (asked n) (not equal)) (requested (asked n)) (not equal) false .reu
+compared : ℕ → Bool → TickAnswer
+compared n equal = advance (withError (asked n) (not equal)) (requested (asked n)) (not equal) false Nothing
 
 tailed : Bool → Reu
-tailed equal = finishDma (compared 2 false) (withTail (moved (requested (asked 2))) true) (not (not equal))
+tailed equal = finishDma (compared 2 false .reu) (withTail (moved (requested (asked 2))) true) (not (not equal))
 
 module _ (m s : List ℕ) (ne : getD m 0 0 ≢ getD s 0 0) where
-  one-differs : to (begin 0 0 3 0x93 ++ ticks 1) (start m s) .u ≡ compared 3 false
+  one-differs : to (begin 0 0 3 0x93 ++ ticks 1) (start m s) .u ≡ compared 3 false .reu
   unfolding calls-computed asked compared
-  one-differs = ap (compared 3) (ne-eqb (getD m 0 0) (getD s 0 0) ne)
+  one-differs = ap (λ (b : Bool). compared 3 b .reu) (ne-eqb (getD m 0 0) (getD s 0 0) ne)
 
   two-compared : (equal : Bool) → eqb (getD m 1 0) (getD s 1 0) ≡ equal → to (begin 0 0 2 0x93 ++ ticks 2) (start m s) .u ≡ tailed equal
   unfolding calls-computed asked compared tailed
   two-compared equal e =
-      ap (λ (b : Bool). runReuCycle (compared 2 b) m s true true 0 false .0 .reu) (ne-eqb (getD m 0 0) (getD s 0 0) ne) ∙ ap tailed e
+      ap (λ (b : Bool). let t = compared 2 b in runReuCycle (t .reu) (putBus (t .put) m) (putStorage (t .put) s) true true 0 false .0 .reu)
+      (ne-eqb (getD m 0 0) (getD s 0 0) ne) ∙ ap tailed e
 
 -- the swap that meets a late fall, on lists that have a first byte
 late-fall : (m s : List ℕ) → length m ≡ 65536 → length s ≡ 524288
@@ -223,7 +232,7 @@ table m s mem =
       R5 = eleven-of m s mem r5 (omega arith);
       R5-bank = (
         ap (λ (h : Held). does (read 6) h .answer) (played m s mem r5 (omega arith))
-            ∙ ap (λ (d : Done). d .answer) (does-is (to r5 (start m s)) (good-played m s mem r5 (omega arith)) (read 6)),
+            ∙ ap (λ (d : Done). d .answer) (does-ready (read 6) (to r5 (start m s)) (ready-played m s mem r5 (omega arith))),
         shows-of m s mem r5 (omega arith) 6,
       );
       R6 = λ ne. eleven-of m s mem (begin 0 0 3 0x93 ++ ticks 1) (omega arith) ∙ ap elevenOf (one-differs m s ne);

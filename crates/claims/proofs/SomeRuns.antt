@@ -25,11 +25,12 @@ use Rattle.reu.specs.Exports.{refusalUnit}
 use Rattle.claims.specs.Calls.{Held, Memories, Kind, read, write, cycle, NumbersFit, grantOf, Call, Fits, leaves, accepts, next, after, Each, All, count}
 use Rattle.claims.specs.SwapTwice.{byte, IsIdle, Start, Step, cycles, reads, writes, AnyStep, NoWrite, register, writesTo, wrote, High, Run, OfBlock, swaps, Rewrites, Ended, OnceEnded, Parts, listOf, atRestart, RunA, RunB}
 use Rattle.claims.proofs.RegisterLaw.{Value, Seven, two, three, four, five, six, seven, eight, is-seven}
-use Rattle.image.proofs.Sound.{sound-connected}
+use Rattle.image.proofs.SoundCalls.{sound-fresh}
 use Rattle.image.proofs.Valid.{sound-bytes, sound-well, sound-typed}
-use Rattle.claims.proofs.States.{St, Good, held, on, stepOf, valueOf, leaves-is, good-step, is-accepted, bit-small}
+use Rattle.claims.proofs.States.{St, held, on, stepOf, valueOf, Ready, ready-step}
+use Rattle.claims.proofs.Accepted.{leaves-is, is-accepted, ready-number, bit-small}
 use Rattle.claims.proofs.Walk.{widen, written-at, next-is}
-use Rattle.claims.proofs.Look.{present-byte, debug-value, Idling, opened, opened-good, opened-is, opened-idling}
+use Rattle.claims.proofs.Look.{present-byte, debug-value, Idling, opened, opened-ready, opened-is, opened-idling}
 use Rattle.claims.proofs.Swap.{Allowed, idle-high, granted-bit, len-of, SwapFrom, over-from, ended-from, granted-from, step-from, begins}
 
 -- ---- a start
@@ -39,10 +40,10 @@ unfolding packImage
 some-start m s mem =
     record {
       memories = mem;
-      image-bytes = sound-bytes (connected newReu) sound-connected;
+      image-bytes = sound-bytes (connected newReu) (sound-fresh true true);
       accepted =
           ap (λ (o : Opened). o .refusal)
-          (open-pack (connected newReu) (sound-typed (connected newReu) sound-connected) (sound-well (connected newReu) sound-connected));
+          (open-pack (connected newReu) (sound-typed (connected newReu) (sound-fresh true true)) (sound-well (connected newReu) (sound-fresh true true)));
       exp-unfixed = refl;
       c64-unfixed = refl;
       attached = refl;
@@ -71,32 +72,35 @@ relax : {P Q : St → Kind → Type 0} {x y : St} {cs : List Call} → ((z : St)
 relax f done = done
 relax f (more {x = x} {d = d} o p t) = more o (f x d p) (relax f t)
 
-next-on : (x : St) (d : Kind) → Good x → Plain x d → next (held x) (on x d) ≡ held (stepOf d x)
-next-on x d g o = next-is x (on x d) g (is-accepted x g d (o .small)) refl
+accepted : (x : St) (d : Kind) → Ready x → Plain x d → accepts (on x d) ≡ true
+accepted x d g o = is-accepted x (g .sound) d (ready-number x g d) (o .small)
 
-trace-good : {P : St → Kind → Type 0} {x y : St} {cs : List Call} → Trace P x cs y → Good x → Good y
-trace-good done g = g
-trace-good (more {x = x} {d = d} o p t) g = trace-good t (good-step x g d (o .numbers))
+next-on : (x : St) (d : Kind) → Ready x → Plain x d → next (held x) (on x d) ≡ held (stepOf d x)
+next-on x d g o = next-is x (on x d) (g .sound) (accepted x d g o) refl
 
-trace-after : {P : St → Kind → Type 0} {x y : St} {cs : List Call} → Trace P x cs y → Good x → after (held x) cs ≡ held y
+trace-ready : {P : St → Kind → Type 0} {x y : St} {cs : List Call} → Trace P x cs y → Ready x → Ready y
+trace-ready done g = g
+trace-ready (more {x = x} {d = d} o p t) g = trace-ready t (ready-step x g d (o .numbers))
+
+trace-after : {P : St → Kind → Type 0} {x y : St} {cs : List Call} → Trace P x cs y → Ready x → after (held x) cs ≡ held y
 trace-after done g = refl
 trace-after (more {x = x} {d = d} {cs = cs} o p t) g =
-    ap (λ (k : Held). after k cs) (next-on x d g o) ∙ trace-after t (good-step x g d (o .numbers))
+    ap (λ (k : Held). after k cs) (next-on x d g o) ∙ trace-after t (ready-step x g d (o .numbers))
 
 trace-each : {P : St → Kind → Type 0} (Q : Held → Call → Type 0) → ((z : St) (d : Kind) → Plain z d → P z d → Q (held z) (on z d))
-    → {x y : St} {cs : List Call} → Trace P x cs y → Good x → Each Q (held x) cs
+    → {x y : St} {cs : List Call} → Trace P x cs y → Ready x → Each Q (held x) cs
 trace-each Q f done g = tt
 trace-each Q f (more {x = x} {d = d} {cs = cs} o p t) g = (
   (λ e. f x d o p),
-  subst (λ (k : Held). Each Q k cs) (sym (next-on x d g o)) (trace-each Q f t (good-step x g d (o .numbers))),
+  subst (λ (k : Held). Each Q k cs) (sym (next-on x d g o)) (trace-each Q f t (ready-step x g d (o .numbers))),
 )
 
-trace-all : {P : St → Kind → Type 0} (Q : Call → Type 0) → ((z : St) (d : Kind) → Good z → Plain z d → Q (on z d))
-    → {x y : St} {cs : List Call} → Trace P x cs y → Good x → All Q cs
+trace-all : {P : St → Kind → Type 0} (Q : Call → Type 0) → ((z : St) (d : Kind) → Ready z → Plain z d → Q (on z d))
+    → {x y : St} {cs : List Call} → Trace P x cs y → Ready x → All Q cs
 trace-all Q f done g = tt
-trace-all Q f (more {x = x} {d = d} o p t) g = (f x d g o, trace-all Q f t (good-step x g d (o .numbers)))
+trace-all Q f (more {x = x} {d = d} o p t) g = (f x d g o, trace-all Q f t (ready-step x g d (o .numbers)))
 
-trace-run : {P : St → Kind → Type 0} {x y : St} {cs : List Call} → Trace P x cs y → Good x → Run (held x) cs
+trace-run : {P : St → Kind → Type 0} {x y : St} {cs : List Call} → Trace P x cs y → Ready x → Run (held x) cs
 trace-run t g =
     record {
       threaded =
@@ -104,7 +108,7 @@ trace-run t g =
             lent = trace-each (λ h c. c .lent ≡ h) (λ z d o p. refl) t g;
             fits =
                 trace-all Fits
-                (λ z d gz o. record { numbers = o .numbers; image = sound-bytes (z .u) (gz .sound); bus = gz .bus-bytes; storage = gz .storage-bytes }) t g;
+                (λ z d gz o. record { numbers = o .numbers; image = sound-bytes (z .u) (gz .sound); bus = gz .bus .bytes; storage = gz .storage .bytes }) t g;
           };
       kinds = trace-all (λ c. AnyStep (c .kind)) (λ z d gz o. o .kind) t g;
       high = trace-each (λ h c. High (c .kind)) (λ z d o p. o .high) t g;
@@ -186,16 +190,16 @@ cycles-count r zero x = refl
 cycles-count r (suc j) x =
     let h = cycles-count r j (stepOf high-cycle x) in omega (arith, and-false (accepts (on x high-cycle)))
 
-writes-count : (W : ℕ → ℕ) → ((i : ℕ) → W i < 256) → (rs : List ℕ) → AllOfBlock rs → (r : ℕ) (x : St) → Good x
+writes-count : (W : ℕ → ℕ) → ((i : ℕ) → W i < 256) → (rs : List ℕ) → AllOfBlock rs → (r : ℕ) (x : St) → Ready x
     → count (wrote r) (writes-from W rs x) ≡ times r rs
 unfolding writes-from
 writes-count W small [] al r x g = refl
 writes-count W small (q ∷ rs) al r x g =
     let o = plain-write x q (W q) (omega arith) (small q) in
-    let h = writes-count W small rs (al .1) r (stepOf (write q (W q)) x) (good-step x g (write q (W q)) (o .numbers)) in
+    let h = writes-count W small rs (al .1) r (stepOf (write q (W q)) x) (ready-step x g (write q (W q)) (o .numbers)) in
     let same : register q ≡ q = omega arith in
     let one : bitOf (wrote r (on x (write q (W q)))) ≡ bitOf (eqb q r)
-    = written-at r (on x (write q (W q))) (is-accepted x g (write q (W q)) (o .small)) ∙ ap (λ (i : ℕ). bitOf (eqb i r)) same in
+    = written-at r (on x (write q (W q))) (accepted x (write q (W q)) g o) ∙ ap (λ (i : ℕ). bitOf (eqb i r)) same in
     omega arith
 
 -- ---- a swap to its end, and the seven writes
@@ -207,7 +211,7 @@ Swapped x y d = OnceEnded (Rewrites (held x)) (held y) (on y d)
 abbrev OnlyCycles : St → Kind → Type 0
 OnlyCycles y d = Step ⊥ NoWrite d
 
-module _ (x : St) (good : Good x) (idl : Idling x) where
+module _ (x : St) (ready : Ready x) (idl : Idling x) where
   abbrev W : ℕ → ℕ
   W = reg (x .u)
 
@@ -223,74 +227,74 @@ module _ (x : St) (good : Good x) (idl : Idling x) where
   abbrev x₂ : St
   x₂ = stepOf swap x
 
-  good₂ : Good x₂
-  good₂ = good-step x good swap (plain-swap .numbers)
+  ready₂ : Ready x₂
+  ready₂ = ready-step x ready swap (plain-swap .numbers)
 
   begun : next (held x) (on x swap) ≡ held x₂
-  begun = next-on x swap good plain-swap
+  begun = next-on x swap ready plain-swap
 
-  swap-cycle : (k : ℕ) (g : ℕ → ℕ) (y : St) → Good y → SwapFrom x good k g y → k < 2 * n → SwapFrom x good (suc k) g (stepOf high-cycle y)
+  swap-cycle : (k : ℕ) (g : ℕ → ℕ) (y : St) → Ready y → SwapFrom x ready k g y → k < 2 * n → SwapFrom x ready (suc k) g (stepOf high-cycle y)
   swap-cycle k g y gy pr lt =
       let o = plain-cycle y in
       let gr : bitOf (eqb (grantOf high-cycle (held y)) 2) ≡ 1
-      = granted-bit y gy 1 0 0 1 ∙ ap (λ (q : ReuBusAction). bitOf (eqb (actionNumber q) 2)) (granted-from x good k g y 0 gy pr lt) in
-      subst₂ (λ (q : ℕ) (f : ℕ → ℕ). SwapFrom x good q f (stepOf high-cycle y)) (omega arith) (fun-ext (λ r. zero-add (g r)))
-      (step-from x good k g y high-cycle gy (o .numbers) (o .high, cycles) pr)
+      = granted-bit y (gy .sound) 1 0 0 1 (ready-number y gy high-cycle) ∙ ap (λ (q : ReuBusAction). bitOf (eqb (actionNumber q) 2)) (granted-from x ready k g y 0 (gy .sound) pr lt) in
+      subst₂ (λ (q : ℕ) (f : ℕ → ℕ). SwapFrom x ready q f (stepOf high-cycle y)) (omega arith) (fun-ext (λ r. zero-add (g r)))
+      (step-from x ready k g y high-cycle (gy .sound) (ready-number y gy high-cycle) (o .numbers) (o .high, cycles) pr)
 
-  cycles-trace : (j k : ℕ) (g : ℕ → ℕ) (y : St) → Good y → SwapFrom x good k g y → j + k ≤ 2 * n
-      → Trace OnlyCycles y (cycles-from j y) (cycles-end j y) × SwapFrom x good (j + k) g (cycles-end j y)
+  cycles-trace : (j k : ℕ) (g : ℕ → ℕ) (y : St) → Ready y → SwapFrom x ready k g y → j + k ≤ 2 * n
+      → Trace OnlyCycles y (cycles-from j y) (cycles-end j y) × SwapFrom x ready (j + k) g (cycles-end j y)
   unfolding cycles-from cycles-end
-  cycles-trace zero k g y gy pr h = (done, subst (λ (q : ℕ). SwapFrom x good q g y) (sym (zero-add k)) pr)
+  cycles-trace zero k g y gy pr h = (done, subst (λ (q : ℕ). SwapFrom x ready q g y) (sym (zero-add k)) pr)
   cycles-trace (suc j) k g y gy pr h =
       let o = plain-cycle y in
-      let rest = cycles-trace j (suc k) g (stepOf high-cycle y) (good-step y gy high-cycle (o .numbers)) (swap-cycle k g y gy pr (omega arith)) (omega arith) in
-      (more o cycles (rest .0), subst (λ (q : ℕ). SwapFrom x good q g (cycles-end j (stepOf high-cycle y))) (omega arith) (rest .1))
+      let rest = cycles-trace j (suc k) g (stepOf high-cycle y) (ready-step y gy high-cycle (o .numbers)) (swap-cycle k g y gy pr (omega arith)) (omega arith) in
+      (more o cycles (rest .0), subst (λ (q : ℕ). SwapFrom x ready q g (cycles-end j (stepOf high-cycle y))) (omega arith) (rest .1))
 
   -- once it is over
-  writes-trace : (rs : List ℕ) → AllOfBlock rs → (k : ℕ) (g : ℕ → ℕ) (y : St) → Good y → SwapFrom x good k g y → k ≡ 2 * n
-      → Trace (Swapped x) y (writes-from W rs y) (writes-end W rs y) × ((f : ℕ → ℕ) × SwapFrom x good k f (writes-end W rs y))
+  writes-trace : (rs : List ℕ) → AllOfBlock rs → (k : ℕ) (g : ℕ → ℕ) (y : St) → Ready y → SwapFrom x ready k g y → k ≡ 2 * n
+      → Trace (Swapped x) y (writes-from W rs y) (writes-end W rs y) × ((f : ℕ → ℕ) × SwapFrom x ready k f (writes-end W rs y))
   unfolding writes-from writes-end
   writes-trace [] al k g y gy pr all = (done, (g, pr))
   writes-trace (r ∷ rs) al k g y gy pr all =
       let d = write r (W r) in
-      let o = plain-write y r (W r) (omega arith) (good .sound .regs .bytes r) in
+      let o = plain-write y r (W r) (omega arith) (ready .sound .regs .fits r .byte) in
       let same : register r ≡ r = omega arith in
-      let ended : Ended (held y) = ended-from x good k g y gy pr all in
+      let ended : Ended (held y) = ended-from x ready k g y (gy .sound) pr all in
       let allowed : Allowed W r (W r) = (omega arith, subst (λ (q : ℕ). Value W q (W r)) (sym same) (refl, λ ne. refl)) in
       let shown : Rewrites (held x) r (W r)
-      = (omega arith, inr (sym (debug-value x good r (omega arith)) ∙ ap (reuDebugRegister (held x .image)) (sym same))) in
-      let next-pr = step-from x good k g y d gy (o .numbers) (tt, writes (ended, allowed)) pr in
-      let rest = writes-trace rs (al .1) k (λ i. bitOf (writesTo i d) + g i) (stepOf d y) (good-step y gy d (o .numbers))
-      (subst (λ (q : ℕ). SwapFrom x good q (λ i. bitOf (writesTo i d) + g i) (stepOf d y)) (zero-add k) next-pr) all in
+      = (omega arith, inr (sym (debug-value x (ready .sound) r (omega arith)) ∙ ap (reuDebugRegister (held x .image)) (sym same))) in
+      let next-pr = step-from x ready k g y d (gy .sound) (ready-number y gy d) (o .numbers) (tt, writes (ended, allowed)) pr in
+      let rest = writes-trace rs (al .1) k (λ i. bitOf (writesTo i d) + g i) (stepOf d y) (ready-step y gy d (o .numbers))
+      (subst (λ (q : ℕ). SwapFrom x ready q (λ i. bitOf (writesTo i d) + g i) (stepOf d y)) (zero-add k) next-pr) all in
       (more o (writes (ended, shown)) (rest .0), rest .1)
 
-  swapped : Trace OnlyCycles x₂ (cycles-from (2 * n) x₂) (cycles-end (2 * n) x₂) × SwapFrom x good (2 * n + 0) (λ r. 0) (cycles-end (2 * n) x₂)
-  swapped = cycles-trace (2 * n) 0 (λ r. 0) x₂ good₂ (begins x good idl (swaps refl refl refl refl)) (omega arith)
+  swapped : Trace OnlyCycles x₂ (cycles-from (2 * n) x₂) (cycles-end (2 * n) x₂) × SwapFrom x ready (2 * n + 0) (λ r. 0) (cycles-end (2 * n) x₂)
+  swapped = cycles-trace (2 * n) 0 (λ r. 0) x₂ ready₂ (begins x ready idl (swaps refl refl refl refl)) (omega arith)
 
   abbrev y₁ : St
   y₁ = cycles-end (2 * n) x₂
 
-  good-y : Good y₁
-  good-y = trace-good (swapped .0) good₂
+  ready-y : Ready y₁
+  ready-y = trace-ready (swapped .0) ready₂
 
   ended-y : Ended (held y₁)
-  ended-y = ended-from x good (2 * n + 0) (λ r. 0) y₁ good-y (swapped .1) (omega arith)
+  ended-y = ended-from x ready (2 * n + 0) (λ r. 0) y₁ (ready-y .sound) (swapped .1) (omega arith)
 
   abbrev x₃ : St
   x₃ = writes-end W the-seven y₁
 
-  written : Trace (Swapped x) y₁ (writes-from W the-seven y₁) x₃ × ((f : ℕ → ℕ) × SwapFrom x good (2 * n + 0) f x₃)
-  written = writes-trace the-seven seven-of-block (2 * n + 0) (λ r. 0) y₁ good-y (swapped .1) (omega arith)
+  written : Trace (Swapped x) y₁ (writes-from W the-seven y₁) x₃ × ((f : ℕ → ℕ) × SwapFrom x ready (2 * n + 0) f x₃)
+  written = writes-trace the-seven seven-of-block (2 * n + 0) (λ r. 0) y₁ ready-y (swapped .1) (omega arith)
 
-  good₃ : Good x₃
-  good₃ = trace-good (written .0) good-y
+  ready₃ : Ready x₃
+  ready₃ = trace-ready (written .0) ready-y
 
   ended₃ : Ended (held x₃)
-  ended₃ = ended-from x good (2 * n + 0) (written .1 .0) x₃ good₃ (written .1 .1) (omega arith)
+  ended₃ = ended-from x ready (2 * n + 0) (written .1 .0) x₃ (ready₃ .sound) (written .1 .1) (omega arith)
 
   idling₃ : Idling x₃
   idling₃ =
-      let o = over-from x good (2 * n + 0) (written .1 .0) x₃ good₃ (written .1 .1) ended₃ in
+      let o = over-from x ready (2 * n + 0) (written .1 .0) x₃ (ready₃ .sound) (written .1 .1) ended₃ in
       record { idle = o .quiet .idle; attached = o .quiet .attached; free = o .free }
 
   abbrev between : List Call
@@ -302,91 +306,91 @@ module _ (x : St) (good : Good x) (idl : Idling x) where
   each-one : (r : ℕ) → OfBlock r → count (wrote r) between ≡ 1
   each-one r b =
       count-append (wrote r) (cycles-from (2 * n) x₂) (writes-from W the-seven y₁)
-      ∙ (λ i. cycles-count r (2 * n) x₂ i + writes-count W (good .sound .regs .bytes) the-seven seven-of-block r y₁ good-y i)
+      ∙ (λ i. cycles-count r (2 * n) x₂ i + writes-count W (λ i. ready .sound .regs .fits i .byte) the-seven seven-of-block r y₁ ready-y i)
       ∙ zero-add (times r the-seven) ∙ once (is-seven r (b .0) (b .1))
 
 -- ---- run A
 
-module _ (x : St) (good : Good x) (idl : Idling x) where
+module _ (x : St) (ready : Ready x) (idl : Idling x) where
   abbrev z : St
-  z = x₃ x good idl
+  z = x₃ x ready idl
 
-  gz : Good z
-  gz = good₃ x good idl
+  gz : Ready z
+  gz = ready₃ x ready idl
 
   iz : Idling z
-  iz = idling₃ x good idl
+  iz = idling₃ x ready idl
 
   abbrev parts : Parts
   parts =
       record {
         before = [];
-        start = on x (swap x good idl);
-        middle = between x good idl;
+        start = on x (swap x ready idl);
+        middle = between x ready idl;
         restart = on z (swap z gz iz);
         last = cycles-from (2 * n z gz iz) (x₂ z gz iz);
       }
 
   at-restart : atRestart (held x) parts ≡ held z
-  at-restart = ap (λ (h : Held). after h (between x good idl)) (begun x good idl) ∙ trace-after (between-trace x good idl) (good₂ x good idl)
+  at-restart = ap (λ (h : Held). after h (between x ready idl)) (begun x ready idl) ∙ trace-after (between-trace x ready idl) (ready₂ x ready idl)
 
   restarted-is : next (atRestart (held x) parts) (parts .restart) ≡ held (x₂ z gz iz)
   restarted-is = ap (λ (h : Held). next h (parts .restart)) at-restart ∙ begun z gz iz
 
   whole : Trace (λ y d. Unit {0}) x (listOf parts) (y₁ z gz iz)
   whole =
-      more (plain-swap x good idl) tt
-      (join (relax (λ y d i. tt) (between-trace x good idl))
+      more (plain-swap x ready idl) tt
+      (join (relax (λ y d i. tt) (between-trace x ready idl))
       (more (plain-swap z gz iz) tt (relax (λ y d i. tt) (swapped z gz iz .0))))
 
   run-a : RunA (held x) parts
   run-a =
       record {
-        run = trace-run whole good;
+        run = trace-run whole ready;
         before = tt;
         first =
             record {
-              accepted = is-accepted x good (swap x good idl) (plain-swap x good idl .small);
+              accepted = accepted x (swap x ready idl) ready (plain-swap x ready idl);
               starts = swaps refl refl refl refl;
               then =
-                  subst (λ (h : Held). Each (OnceEnded (Rewrites (held x))) h (between x good idl)) (sym (begun x good idl))
-                  (trace-each (OnceEnded (Rewrites (held x))) (λ y d o i. i) (between-trace x good idl) (good₂ x good idl));
-              ends = subst Ended (sym at-restart) (ended₃ x good idl);
+                  subst (λ (h : Held). Each (OnceEnded (Rewrites (held x))) h (between x ready idl)) (sym (begun x ready idl))
+                  (trace-each (OnceEnded (Rewrites (held x))) (λ y d o i. i) (between-trace x ready idl) (ready₂ x ready idl));
+              ends = subst Ended (sym at-restart) (ended₃ x ready idl);
             };
-        each-once = each-one x good idl;
+        each-once = each-one x ready idl;
         second =
             record {
-              accepted = is-accepted z gz (swap z gz iz) (plain-swap z gz iz .small);
+              accepted = accepted z (swap z gz iz) gz (plain-swap z gz iz);
               starts = swaps refl refl refl refl;
               then =
                   subst (λ (h : Held). Each (OnceEnded NoWrite) h (parts .last)) (sym restarted-is)
-                  (trace-each (OnceEnded NoWrite) (λ y d o i. widen (λ none. absurd none) (λ a v none. absurd none) i) (swapped z gz iz .0) (good₂ z gz iz));
+                  (trace-each (OnceEnded NoWrite) (λ y d o i. widen (λ none. absurd none) (λ a v none. absurd none) i) (swapped z gz iz .0) (ready₂ z gz iz));
               ends =
-                  subst Ended (sym (ap (λ (h : Held). after h (parts .last)) restarted-is ∙ trace-after (swapped z gz iz .0) (good₂ z gz iz))) (ended-y z gz iz);
+                  subst Ended (sym (ap (λ (h : Held). after h (parts .last)) restarted-is ∙ trace-after (swapped z gz iz .0) (ready₂ z gz iz))) (ended-y z gz iz);
             };
       }
 
 pub some-a : (k : Held) → Start k → (p : Parts) × RunA k p
 some-a k st =
     subst (λ (h : Held). (p : Parts) × RunA h p) (opened-is k st)
-    (parts (opened k) (opened-good k st) (opened-idling k st), run-a (opened k) (opened-good k st) (opened-idling k st))
+    (parts (opened k) (opened-ready k st) (opened-idling k st), run-a (opened k) (opened-ready k st) (opened-idling k st))
 
 -- ---- run B
 
-stays : (x : St) (d : Kind) → Good x → Plain x d → stepOf d x .u .dma ≡ Idle → IsIdle (leaves (on x d))
+stays : (x : St) (d : Kind) → Ready x → Plain x d → stepOf d x .u .dma ≡ Idle → IsIdle (leaves (on x d))
 stays x d g o e =
-    ap (λ (h : Held). byte h 21) (leaves-is x g d) ∙ present-byte (stepOf d x) (good-step x g d (o .numbers)) ∙ ap present e
+    ap (λ (h : Held). byte h 21) (leaves-is x (g .sound) d (ready-number x g d)) ∙ present-byte (stepOf d x) (ready-step x g d (o .numbers) .sound) ∙ ap present e
 
-module _ (x : St) (good : Good x) (idle : x .u .dma ≡ Idle) where
+module _ (x : St) (ready : Ready x) (idle : x .u .dma ≡ Idle) where
   first : Plain x (read 0)
   unfolding readRegister
-  first = let b : reg (x .u) 0 < 256 = good .sound .regs .bytes 0 in record { small = omega arith; numbers = omega arith; high = tt; kind = reads tt }
+  first = let b : reg (x .u) 0 < 256 = ready .sound .regs .fits 0 .byte in record { small = omega arith; numbers = omega arith; high = tt; kind = reads tt }
 
   abbrev b₁ : St
   b₁ = stepOf (read 0) x
 
-  good-1 : Good b₁
-  good-1 = good-step x good (read 0) (first .numbers)
+  ready-1 : Ready b₁
+  ready-1 = ready-step x ready (read 0) (first .numbers)
 
   idle-1 : b₁ .u .dma ≡ Idle
   unfolding readRegister
@@ -398,8 +402,8 @@ module _ (x : St) (good : Good x) (idle : x .u .dma ≡ Idle) where
   abbrev b₂ : St
   b₂ = stepOf (write 2 0) b₁
 
-  good-2 : Good b₂
-  good-2 = good-step b₁ good-1 (write 2 0) (second .numbers)
+  ready-2 : Ready b₂
+  ready-2 = ready-step b₁ ready-1 (write 2 0) (second .numbers)
 
   idle-2 : b₂ .u .dma ≡ Idle
   unfolding writeRegister
@@ -416,19 +420,19 @@ module _ (x : St) (good : Good x) (idle : x .u .dma ≡ Idle) where
 
   trace-b : Trace (λ y d. IsIdle (leaves (on y d))) x three-calls (stepOf high-cycle b₂)
   trace-b =
-      more first (stays x (read 0) good first idle-1)
-      (more second (stays b₁ (write 2 0) good-1 second idle-2) (more third (stays b₂ high-cycle good-2 third idle-3) done))
+      more first (stays x (read 0) ready first idle-1)
+      (more second (stays b₁ (write 2 0) ready-1 second idle-2) (more third (stays b₂ high-cycle ready-2 third idle-3) done))
 
   run-b : RunB (held x) three-calls
-  run-b = record { run = trace-run trace-b good; stays-idle = trace-each (λ h c. IsIdle (leaves c)) (λ y d o i. i) trace-b good }
+  run-b = record { run = trace-run trace-b ready; stays-idle = trace-each (λ h c. IsIdle (leaves c)) (λ y d o i. i) trace-b ready }
 
   all-accepted : All (λ c. accepts c ≡ true) three-calls
-  all-accepted = trace-all (λ c. accepts c ≡ true) (λ y d g o. is-accepted y g d (o .small)) trace-b good
+  all-accepted = trace-all (λ c. accepts c ≡ true) (λ y d g o. accepted y d g o) trace-b ready
 
 pub some-b : (k : Held) → Start k
     → (calls : List Call) × RunB k calls × All (λ c. accepts c ≡ true) calls × (map (λ c. c .kind) calls ≡ read 0 ∷ write 2 0 ∷ cycle 1 0 0 1 ∷ [])
 some-b k st =
     let x = opened k in
-    let g = opened-good k st in
+    let g = opened-ready k st in
     let i = opened-idling k st .idle in
     (three-calls x g i, subst (λ (h : Held). RunB h (three-calls x g i)) (opened-is k st) (run-b x g i), all-accepted x g i, refl)

@@ -10,7 +10,7 @@ use lib.Bits.{bitAnd, bitOr, or-lt, and-le-r}
 use lib.Dec.{eqb}
 use native.Mathlib.Omega.{arith}
 use native.Mathlib.Decide.{ℕ-discrete}
-use borrow.Author.Tests.{ne-eqb, eqb-true}
+use borrow.Author.Tests.{ne-eqb}
 use Rattle.controller.specs.declared.reu.Reu.{Reu}
 use Rattle.controller.specs.declared.dma.Dma.the-variants.{Idle}
 use Rattle.controller.specs.declared.timing.ReuBusAction.{ReuBusAction}
@@ -20,19 +20,20 @@ use Rattle.controller.proofs.Bits.{bit-one}
 use Rattle.controller.specs.Reu.{reg, withDma}
 use Rattle.controller.specs.Registers.{readRegister, writeRegister}
 use Rattle.controller.specs.Dma.{lengthOf}
-use Rattle.controller.specs.BusAction.{busAction}
+use Rattle.controller.specs.BusAction.{busAction as core-busAction}
 use Rattle.controller.specs.TickDma.{Ticked}
 use Rattle.controller.specs.Cycle.{runReuCycle}
 use Rattle.controller.specs.Calls.{actionNumber}
 use Rattle.reu.specs.Exports.{flag}
-use Rattle.claims.specs.Calls.{Held, Kind, cycle, NumbersFit, grantOf, Call}
+use Rattle.claims.specs.Calls.{Held, Kind, busAction, cycle, other, NumbersFit, grantOf, Call}
 use Rattle.claims.specs.SwapTwice.{Step, cycles, reads, writes, register, writesTo, High, OfBlock, SwapsAtOnce, swaps, Ended, OnceEnded}
-use Rattle.image.proofs.Sound.{length-range}
+use Rattle.image.proofs.Sound.{Sound}
+use Rattle.image.proofs.SoundCalls.{length-range}
 use Rattle.claims.proofs.CycleLaw.{Reading, Writing, Quiet, Kept, ReadStep, WriteStep, LastStep, IdleStep, read-step, write-step, last-step, idle-step, quiet-step}
 use Rattle.claims.proofs.RegisterLaw.{Begun, start-law, Rewritten, rewritten-none, rewritten-keep, Value, rewrite-law, read-law, read-stays-quiet}
 use Rattle.claims.proofs.Exchange.{Exch, exch-zero, exch-next}
-use Rattle.claims.proofs.Accepted.{bus-action-is}
-use Rattle.claims.proofs.States.{St, Good, held, on, ofTicked, stepOf}
+use Rattle.claims.proofs.States.{St, held, on, stepOf, numberOf, Ready}
+use Rattle.claims.proofs.Accepted.{without-bus, answer-is}
 use Rattle.claims.proofs.Look.{ended-reg, reg-ended, Idling}
 
 abbrev pub onBus : ℕ → ℕ → ℕ
@@ -72,11 +73,15 @@ idle-high x h n l p hi e =
     subst₂ (λ (b q : Bool). IdleStep (x .u) (x .m) (x .s) (runReuCycle (x .u) (x .m) (x .s) b q n (flag l))) (sym (flag-high h (hi .0))) (sym (flag-high p (hi .1)))
     (idle-step (x .u) e (x .m) (x .s) n (flag l))
 
--- whether a cycle is granted is what its action says
-pub granted-bit : (x : St) → Good x → (h i l p : ℕ)
-    → bitOf (eqb (grantOf (cycle h i l p) (held x)) 2) ≡ bitOf (eqb (actionNumber (busAction (x .u) (x .s) (flag h) (flag p) i .0 .action)) 2)
-granted-bit x g h i l p =
-    ap (λ (y : ℕ × List ℕ × List ℕ). bitOf (eqb (y .0) 2)) (bus-action-is (x .u) (g .sound) (x .s) (g .storage-size) h p i)
+-- whether an accepted cycle is granted is what its action says
+pub granted-bit : (x : St) → Sound (x .u) → (h i l p : ℕ) → numberOf (cycle h i l p) x ≡ 0
+    → bitOf (eqb (grantOf (cycle h i l p) (held x)) 2) ≡ bitOf (eqb (actionNumber (core-busAction (x .u) (x .s) (flag h) (flag p) i .0 .action)) 2)
+granted-bit x sound h i l p z =
+    ap (λ (n : ℕ). bitOf (eqb n 2))
+    (answer-is x sound (other (busAction h p i)) (without-bus (x .u) (length (x .m)) (length (x .s)) z))
+
+abbrev afterTick : Ticked → St
+afterTick t = record { u = t .0 .reu; m = t .1; s = t .2 }
 
 kept-of : (u w : Reu) → u .dma ≡ Idle → Kept (withDma u Idle) w → Kept u w
 kept-of u w e k =
@@ -106,7 +111,7 @@ module _ (W : ℕ → ℕ) (c e n : ℕ) (few : n ≤ 65536) (m₀ s₀ : List �
   cycle-reads : (k : ℕ) (g : ℕ → ℕ) (x : St) (j : ℕ) → j < n → k ≡ 2 * j → ((r : ℕ) → g r ≡ 0)
       → Exch (onBus c) (onStorage e) j m₀ s₀ (x .m) (x .s) → reg (x .u) 1 / 128 % 2 ≡ 1 → reg (x .u) 10 / 64 ≡ 0
       → (t : Ticked) (a : ReuBusAction) → ReadStep (x .u) (onBus c j) ((e + j) % 16777216) (n - j) (x .m) (x .s) t a
-      → Progress (1 + k) g (ofTicked t)
+      → Progress (1 + k) g (afterTick t)
   cycle-reads k g x j lt ek zero′ ex one free t a st =
       writing j lt (omega arith) zero′
       (subst (λ (v : ℕ). Writing (t .0 .reu) (onBus c j) ((e + j) % 16777216) (n - j) v)
@@ -131,7 +136,7 @@ module _ (W : ℕ → ℕ) (c e n : ℕ) (few : n ≤ 65536) (m₀ s₀ : List �
       → Exch (onBus c) (onStorage e) j m₀ s₀ (x .m) s → x .s ≡ set s (onStorage e j) (getD m₀ (onBus c j) 0)
       → reg (x .u) 1 / 128 % 2 ≡ 1 → reg (x .u) 10 / 64 ≡ 0
       → (t : Ticked) (a : ReuBusAction) → WriteStep (x .u) (onBus c j) ((e + j) % 16777216) (n - j) (getD s₀ (onStorage e j) 0) (x .m) (x .s) t a
-      → Progress (1 + k) g (ofTicked t)
+      → Progress (1 + k) g (afterTick t)
   cycle-writes k g x j lt ek zero′ s ex es one free t a st =
       let left : n - j - 1 ≡ n - suc j = omega arith in
       reading (suc j) lt (omega arith) zero′
@@ -146,7 +151,7 @@ module _ (W : ℕ → ℕ) (c e n : ℕ) (few : n ≤ 65536) (m₀ s₀ : List �
       → Exch (onBus c) (onStorage e) j m₀ s₀ (x .m) s → x .s ≡ set s (onStorage e j) (getD m₀ (onBus c j) 0)
       → reg (x .u) 10 / 64 ≡ 0
       → (t : Ticked) (a : ReuBusAction) → LastStep (x .u) (onBus c j) (getD s₀ (onStorage e j) 0) (x .m) (x .s) t a
-      → Progress (1 + k) g (ofTicked t)
+      → Progress (1 + k) g (afterTick t)
   cycle-lasts k g x j last ek zero′ s ex es free t a st =
       over (omega arith) (st .quiet)
       (subst (λ (f : ℕ → ℕ). Rewritten W f (t .0 .reu)) (fun-ext (λ r. sym (zero′ r))) (rewritten-none W (t .0 .reu)))
@@ -156,39 +161,39 @@ module _ (W : ℕ → ℕ) (c e n : ℕ) (few : n ≤ 65536) (m₀ s₀ : List �
 
   -- a cycle is granted until the swap is over, and then no more
   data Cycled (k : ℕ) (g : ℕ → ℕ) (t : Ticked) (a : ReuBusAction) : Type 0 where
-    moves : a ≡ Transfer → Progress (1 + k) g (ofTicked t) → Cycled k g t a
-    rests : a ≡ Cpu → k ≡ 2 * n → Progress k g (ofTicked t) → Cycled k g t a
+    moves : a ≡ Transfer → Progress (1 + k) g (afterTick t) → Cycled k g t a
+    rests : a ≡ Cpu → k ≡ 2 * n → Progress k g (afterTick t) → Cycled k g t a
 
-  cycled : (k : ℕ) (g : ℕ → ℕ) (x : St) (low : Bool) (i : ℕ) → Good x → Progress k g x
-      → Cycled k g (runReuCycle (x .u) (x .m) (x .s) true true i low) (busAction (x .u) (x .s) true true i .0 .action)
-  cycled k g x low i good (reading j lt ek zero′ rd ex one free) =
+  cycled : (k : ℕ) (g : ℕ → ℕ) (x : St) (low : Bool) (i : ℕ) → Sound (x .u) → Progress k g x
+      → Cycled k g (runReuCycle (x .u) (x .m) (x .s) true true i low) (core-busAction (x .u) (x .s) true true i .0 .action)
+  cycled k g x low i sound (reading j lt ek zero′ rd ex one free) =
       let st = read-step (x .u) (onBus c j) ((e + j) % 16777216) (n - j) rd (x .m) (x .s) i low in
       moves (st .granted) (cycle-reads k g x j lt ek zero′ ex one free _ _ st)
-  cycled k g x low i good (writing j lt ek zero′ wr s ex es one free) = go (ℕ-discrete (n - j) 1)
+  cycled k g x low i sound (writing j lt ek zero′ wr s ex es one free) = go (ℕ-discrete (n - j) 1)
     where
       latch : ℕ
       latch = getD s₀ (onStorage e j) 0
 
-      go : Dec (n - j ≡ 1) → Cycled k g (runReuCycle (x .u) (x .m) (x .s) true true i low) (busAction (x .u) (x .s) true true i .0 .action)
+      go : Dec (n - j ≡ 1) → Cycled k g (runReuCycle (x .u) (x .m) (x .s) true true i low) (core-busAction (x .u) (x .s) true true i .0 .action)
       go (yes q) =
           let st = last-step (x .u) (onBus c j) ((e + j) % 16777216) latch (subst (λ (r : ℕ). Writing (x .u) (onBus c j) ((e + j) % 16777216) r latch) q wr)
-          (good .sound .regs .len) (x .m) (x .s) i low in
+          (sound .regs .len) (x .m) (x .s) i low in
           moves (st .granted) (cycle-lasts k g x j (omega arith) ek zero′ s ex es free _ _ st)
       go (no q) =
           let st = write-step (x .u) (onBus c j) ((e + j) % 16777216) (n - j) latch wr (ne-eqb (n - j) 1 q) (x .m) (x .s) i low in
           moves (st .granted) (cycle-writes k g x j (omega arith) ek zero′ s ex es one free _ _ st)
-  cycled k g x low i good (over ek q re ex ended free) =
+  cycled k g x low i sound (over ek q re ex ended free) =
       let st = idle-step (x .u) (q .idle) (x .m) (x .s) i low in
       let sq = quiet-step (x .u) q (x .m) (x .s) i low in
       rests (sq .granted) ek
       (over ek (sq .quiet) (rewritten-keep W g g (x .u) _ (kept-of (x .u) _ (q .idle) (st .kept)) (λ r. refl) re) (rw (st .bus, st .storage) ex)
       (ap (λ (v : ℕ). v / 128 % 2) (st .kept .regs 1 (omega arith)) ∙ ended) (ap (λ (v : ℕ). v / 64) (st .kept .regs 10 (omega arith)) ∙ free))
 
-  counted : (k : ℕ) (g : ℕ → ℕ) (t : Ticked) (a : ReuBusAction) → Cycled k g t a → Progress (bitOf (eqb (actionNumber a) 2) + k) g (ofTicked t)
-  counted k g t a (moves e p) = subst (λ (q : ReuBusAction). Progress (bitOf (eqb (actionNumber q) 2) + k) g (ofTicked t)) (sym e) p
+  counted : (k : ℕ) (g : ℕ → ℕ) (t : Ticked) (a : ReuBusAction) → Cycled k g t a → Progress (bitOf (eqb (actionNumber a) 2) + k) g (afterTick t)
+  counted k g t a (moves e p) = subst (λ (q : ReuBusAction). Progress (bitOf (eqb (actionNumber q) 2) + k) g (afterTick t)) (sym e) p
   counted k g t a (rests e ek p) =
-      subst (λ (q : ReuBusAction). Progress (bitOf (eqb (actionNumber q) 2) + k) g (ofTicked t)) (sym e)
-      (subst (λ (q : ℕ). Progress q g (ofTicked t)) (sym (zero-add k)) p)
+      subst (λ (q : ReuBusAction). Progress (bitOf (eqb (actionNumber q) 2) + k) g (afterTick t)) (sym e)
+      (subst (λ (q : ℕ). Progress q g (afterTick t)) (sym (zero-add k)) p)
 
   until : (k : ℕ) (g : ℕ → ℕ) (t : Ticked) (a : ReuBusAction) → k < 2 * n → Cycled k g t a → a ≡ Transfer
   until k g t a h (moves e p) = e
@@ -203,44 +208,44 @@ module _ (W : ℕ → ℕ) (c e n : ℕ) (few : n ≤ 65536) (m₀ s₀ : List �
     pub ended : reg (x .u) 1 / 128 % 2 ≡ 0
     pub free : reg (x .u) 10 / 64 ≡ 0
 
-  pub over-of : (k : ℕ) (g : ℕ → ℕ) (x : St) → Good x → Progress k g x → Ended (held x) → Over k g x
-  over-of k g x good (reading j lt ek zero′ rd ex one free) en =
-      absurd (omega (arith, ended-reg x good en))
-  over-of k g x good (writing j lt ek zero′ wr s ex es one free) en =
-      absurd (omega (arith, ended-reg x good en))
-  over-of k g x good (over ek q re ex ended free) en =
+  pub over-of : (k : ℕ) (g : ℕ → ℕ) (x : St) → Sound (x .u) → Progress k g x → Ended (held x) → Over k g x
+  over-of k g x sound (reading j lt ek zero′ rd ex one free) en =
+      absurd (omega (arith, ended-reg x sound en))
+  over-of k g x sound (writing j lt ek zero′ wr s ex es one free) en =
+      absurd (omega (arith, ended-reg x sound en))
+  over-of k g x sound (over ek q re ex ended free) en =
       record { total = ek; quiet = q; rewritten = re; exch = ex; ended = ended; free = free }
 
-  pub ended-of : (k : ℕ) (g : ℕ → ℕ) (x : St) → Good x → Progress k g x → k ≡ 2 * n → Ended (held x)
-  ended-of k g x good (reading j lt ek zero′ rd ex one free) t = absurd (omega arith)
-  ended-of k g x good (writing j lt ek zero′ wr s ex es one free) t = absurd (omega arith)
-  ended-of k g x good (over ek q re ex ended free) t = reg-ended x good ended
+  pub ended-of : (k : ℕ) (g : ℕ → ℕ) (x : St) → Sound (x .u) → Progress k g x → k ≡ 2 * n → Ended (held x)
+  ended-of k g x sound (reading j lt ek zero′ rd ex one free) t = absurd (omega arith)
+  ended-of k g x sound (writing j lt ek zero′ wr s ex es one free) t = absurd (omega arith)
+  ended-of k g x sound (over ek q re ex ended free) t = reg-ended x sound ended
 
   -- any call that may come
-  pub step : (k : ℕ) (g : ℕ → ℕ) (x : St) {d : Kind} → Good x → NumbersFit d → High d
+  pub step : (k : ℕ) (g : ℕ → ℕ) (x : St) {d : Kind} → Sound (x .u) → numberOf d x ≡ 0 → NumbersFit d → High d
       → Step (Ended (held x)) (λ a v. Ended (held x) × Allowed W a v) d → Progress k g x
       → Progress (bitOf (eqb (grantOf d (held x)) 2) + k) (λ r. bitOf (writesTo r d) + g r) (stepOf d x)
-  step k g x good fi hi (reads {address = a} en) pr =
-      let o = over-of k g x good pr en in
+  step k g x sound z fi hi (reads {address = a} en) pr =
+      let o = over-of k g x sound pr en in
       let ke = read-law (x .u) a in
       over (omega (arith, o .total)) (read-stays-quiet (x .u) a (o .quiet))
       (rewritten-keep W g (λ r. 0 + g r) (x .u) (readRegister (x .u) a .reu) ke (λ r. zero-add (g r)) (o .rewritten))
       (o .exch) (ap (λ (v : ℕ). v / 128 % 2) (ke .regs 1 (omega arith)) ∙ o .ended) (ap (λ (v : ℕ). v / 64) (ke .regs 10 (omega arith)) ∙ o .free)
-  step k g x good fi hi (writes {address = a} {value = v} (en, al)) pr =
-      let o = over-of k g x good pr en in
-      let w = rewrite-law W g (x .u) a v (al .0 .0) (al .0 .1) (good .sound .regs .len) (fi .1) (al .1) (o .rewritten) in
+  step k g x sound z fi hi (writes {address = a} {value = v} (en, al)) pr =
+      let o = over-of k g x sound pr en in
+      let w = rewrite-law W g (x .u) a v (al .0 .0) (al .0 .1) (sound .regs .len) (fi .1) (al .1) (o .rewritten) in
       over (omega (arith, o .total)) (w .1 .quiet (o .quiet)) (w .0)
       (o .exch) (ap (λ (q : ℕ). q / 128 % 2) (w .1 .command) ∙ o .ended) (ap (λ (q : ℕ). q / 64) (w .1 .control) ∙ o .free)
-  step k g x good fi hi (cycles {high = h} {number = i} {low = l} {phi1 = p}) pr =
-      subst₂ (λ (q : ℕ) (f : ℕ → ℕ). Progress (q + k) f (stepOf (cycle h i l p) x)) (sym (granted-bit x good h i l p)) (fun-ext (λ r. sym (zero-add (g r))))
+  step k g x sound z fi hi (cycles {high = h} {number = i} {low = l} {phi1 = p}) pr =
+      subst₂ (λ (q : ℕ) (f : ℕ → ℕ). Progress (q + k) f (stepOf (cycle h i l p) x)) (sym (granted-bit x sound h i l p z)) (fun-ext (λ r. sym (zero-add (g r))))
       (counted k g _ _
-      (subst₂ (λ (b q : Bool). Cycled k g (runReuCycle (x .u) (x .m) (x .s) b q i (flag l)) (busAction (x .u) (x .s) b q i .0 .action))
-      (sym (flag-high h (hi .0))) (sym (flag-high p (hi .1))) (cycled k g x (flag l) i good pr)))
+      (subst₂ (λ (b q : Bool). Cycled k g (runReuCycle (x .u) (x .m) (x .s) b q i (flag l)) (core-busAction (x .u) (x .s) b q i .0 .action))
+      (sym (flag-high h (hi .0))) (sym (flag-high p (hi .1))) (cycled k g x (flag l) i sound pr)))
 
   -- before it is over each cycle is granted
-  pub granted-until : (k : ℕ) (g : ℕ → ℕ) (x : St) (i : ℕ) → Good x → Progress k g x → k < 2 * n
-      → busAction (x .u) (x .s) true true i .0 .action ≡ Transfer
-  granted-until k g x i good pr h = until k g _ _ h (cycled k g x false i good pr)
+  pub granted-until : (k : ℕ) (g : ℕ → ℕ) (x : St) (i : ℕ) → Sound (x .u) → Progress k g x → k < 2 * n
+      → core-busAction (x .u) (x .s) true true i .0 .action ≡ Transfer
+  granted-until k g x i sound pr h = until k g _ _ h (cycled k g x false i sound pr)
 
 -- ---- the swap that starts from a state
 
@@ -257,11 +262,11 @@ len-of u = lengthOf (word (reg u 7) (reg u 8))
 abbrev pub Swapping : St → Held → Call → Type 0
 Swapping x h c = High (c .kind) × OnceEnded (Allowed (reg (x .u))) h c
 
-module _ (x : St) (good : Good x) where
+module _ (x : St) (ready : Ready x) where
   small-word : (i j : ℕ) → word (reg (x .u) i) (reg (x .u) j) < 65536
   small-word i j =
-      let a : reg (x .u) i < 256 = good .sound .regs .bytes i in
-      let b : reg (x .u) j < 256 = good .sound .regs .bytes j in
+      let a : reg (x .u) i < 256 = ready .sound .regs .fits i .byte in
+      let b : reg (x .u) j < 256 = ready .sound .regs .fits j .byte in
       omega arith
 
   pub few : len-of (x .u) ≤ 65536
@@ -269,36 +274,36 @@ module _ (x : St) (good : Good x) where
 
   -- what a swap from x has come to, and once it is over
   abbrev pub SwapFrom : ℕ → (ℕ → ℕ) → St → Type 0
-  SwapFrom = Progress (reg (x .u)) (c64-of (x .u)) (exp-of (x .u)) (len-of (x .u)) few (x .m) (x .s) (good .bus-size) (good .storage-size)
+  SwapFrom = Progress (reg (x .u)) (c64-of (x .u)) (exp-of (x .u)) (len-of (x .u)) few (x .m) (x .s) (ready .bus .size) (ready .storage .size)
 
   abbrev pub OverFrom : ℕ → (ℕ → ℕ) → St → Type 0
-  OverFrom = Over (reg (x .u)) (c64-of (x .u)) (exp-of (x .u)) (len-of (x .u)) few (x .m) (x .s) (good .bus-size) (good .storage-size)
+  OverFrom = Over (reg (x .u)) (c64-of (x .u)) (exp-of (x .u)) (len-of (x .u)) few (x .m) (x .s) (ready .bus .size) (ready .storage .size)
 
-  pub over-from : (k : ℕ) (g : ℕ → ℕ) (y : St) → Good y → SwapFrom k g y → Ended (held y) → OverFrom k g y
-  over-from = over-of (reg (x .u)) (c64-of (x .u)) (exp-of (x .u)) (len-of (x .u)) few (x .m) (x .s) (good .bus-size) (good .storage-size)
+  pub over-from : (k : ℕ) (g : ℕ → ℕ) (y : St) → Sound (y .u) → SwapFrom k g y → Ended (held y) → OverFrom k g y
+  over-from = over-of (reg (x .u)) (c64-of (x .u)) (exp-of (x .u)) (len-of (x .u)) few (x .m) (x .s) (ready .bus .size) (ready .storage .size)
 
-  pub ended-from : (k : ℕ) (g : ℕ → ℕ) (y : St) → Good y → SwapFrom k g y → k ≡ 2 * len-of (x .u) → Ended (held y)
-  ended-from = ended-of (reg (x .u)) (c64-of (x .u)) (exp-of (x .u)) (len-of (x .u)) few (x .m) (x .s) (good .bus-size) (good .storage-size)
+  pub ended-from : (k : ℕ) (g : ℕ → ℕ) (y : St) → Sound (y .u) → SwapFrom k g y → k ≡ 2 * len-of (x .u) → Ended (held y)
+  ended-from = ended-of (reg (x .u)) (c64-of (x .u)) (exp-of (x .u)) (len-of (x .u)) few (x .m) (x .s) (ready .bus .size) (ready .storage .size)
 
-  pub granted-from : (k : ℕ) (g : ℕ → ℕ) (y : St) (i : ℕ) → Good y → SwapFrom k g y → k < 2 * len-of (x .u)
-      → busAction (y .u) (y .s) true true i .0 .action ≡ Transfer
-  granted-from = granted-until (reg (x .u)) (c64-of (x .u)) (exp-of (x .u)) (len-of (x .u)) few (x .m) (x .s) (good .bus-size) (good .storage-size)
+  pub granted-from : (k : ℕ) (g : ℕ → ℕ) (y : St) (i : ℕ) → Sound (y .u) → SwapFrom k g y → k < 2 * len-of (x .u)
+      → core-busAction (y .u) (y .s) true true i .0 .action ≡ Transfer
+  granted-from = granted-until (reg (x .u)) (c64-of (x .u)) (exp-of (x .u)) (len-of (x .u)) few (x .m) (x .s) (ready .bus .size) (ready .storage .size)
 
-  pub step-from : (k : ℕ) (g : ℕ → ℕ) (y : St) (d : Kind) → Good y → NumbersFit d → Swapping x (held y) (on y d) → SwapFrom k g y
+  pub step-from : (k : ℕ) (g : ℕ → ℕ) (y : St) (d : Kind) → Sound (y .u) → numberOf d y ≡ 0 → NumbersFit d → Swapping x (held y) (on y d) → SwapFrom k g y
       → SwapFrom (bitOf (eqb (grantOf d (held y)) 2) + k) (λ r. bitOf (writesTo r d) + g r) (stepOf d y)
-  step-from k g y d gy fi p =
-      step (reg (x .u)) (c64-of (x .u)) (exp-of (x .u)) (len-of (x .u)) few (x .m) (x .s) (good .bus-size) (good .storage-size)
-      k g y gy fi (p .0) (p .1)
+  step-from k g y d sound z fi p =
+      step (reg (x .u)) (c64-of (x .u)) (exp-of (x .u)) (len-of (x .u)) few (x .m) (x .s) (ready .bus .size) (ready .storage .size)
+      k g y sound z fi (p .0) (p .1)
 
   -- the start
   pub begins : Idling x → {d : Kind} → SwapsAtOnce d → SwapFrom 0 (λ r. 0) (stepOf d x)
   begins i (swaps {address = a} {value = v} one type now go) =
       let go′ : v / 128 % 2 ≡ 1 = bit-one v 7 go in
       let b : Begun (x .u) v (writeRegister (x .u) a v)
-      = start-law (x .u) v (good .sound .regs .len) (i .attached) (i .free) type now go a one in
+      = start-law (x .u) v (ready .sound .regs .len) (i .attached) (i .free) type now go a one in
       let small : word (reg (x .u) 2) (reg (x .u) 3) < 65536 = small-word 2 3 in
       let small′ : word (reg (x .u) 4) (reg (x .u) 5) < 65536 = small-word 4 5 in
-      let bank : reg (x .u) 6 < 256 = good .sound .regs .bytes 6 in
+      let bank : reg (x .u) 6 < 256 = ready .sound .regs .fits 6 .byte in
       let ec : c64-of (x .u) ≡ onBus (c64-of (x .u)) 0 = omega arith in
       let ee : exp-of (x .u) ≡ (exp-of (x .u) + 0) % 16777216 = omega arith in
       let er : len-of (x .u) ≡ len-of (x .u) - 0 = omega arith in

@@ -9,7 +9,9 @@ use native.Mathlib.Omega.{arith}
 use Rattle.controller.specs.Bytes.{bitOf}
 use Rattle.claims.specs.Calls.{Held, Kind, NumbersFit, does, grantOf, Call, Fits, leaves, accepts, next, after, Each, All, count, Threaded}
 use Rattle.claims.specs.SwapTwice.{Step, cycles, reads, writes, writesTo, wrote, granted}
-use Rattle.claims.proofs.States.{St, Good, held, on, stepOf, leaves-is, good-step}
+use Rattle.image.proofs.Sound.{Sound}
+use Rattle.claims.proofs.States.{St, Good, held, on, stepOf, numberOf, good-step}
+use Rattle.claims.proofs.Accepted.{accepted-number, leaves-is}
 
 -- ---- lists of calls in parts
 
@@ -56,9 +58,15 @@ each-at P k cs t e =
 
 -- ---- the next state
 
-pub next-is : (x : St) (c : Call) → Good x → accepts c ≡ true → c .lent ≡ held x → next (held x) c ≡ held (stepOf (c .kind) x)
-next-is x c good ok le =
-    ap (λ (b : Bool). cond b (leaves c) (held x)) ok ∙ (λ i. does (c .kind) (le i) .left) ∙ leaves-is x good (c .kind)
+number-at : (x : St) (c : Call) → Sound (x .u) → accepts c ≡ true → c .lent ≡ held x → numberOf (c .kind) x ≡ 0
+number-at x c sound ok le =
+    accepted-number x sound (c .kind) (ap (λ (h : Held). accepts (record { kind = c .kind; lent = h })) (sym le) ∙ ok)
+
+pub left-is : (x : St) (c : Call) → Sound (x .u) → accepts c ≡ true → c .lent ≡ held x → leaves c ≡ held (stepOf (c .kind) x)
+left-is x c sound ok le = (λ i. does (c .kind) (le i) .left) ∙ leaves-is x sound (c .kind) (number-at x c sound ok le)
+
+pub next-is : (x : St) (c : Call) → Sound (x .u) → accepts c ≡ true → c .lent ≡ held x → next (held x) c ≡ held (stepOf (c .kind) x)
+next-is x c sound ok le = ap (λ (b : Bool). cond b (leaves c) (held x)) ok ∙ left-is x c sound ok le
 
 -- what is counted of an accepted call that is lent what is held, and of a refused one
 granted-at : (x : St) (c : Call) → accepts c ≡ true → c .lent ≡ held x → bitOf (granted c) ≡ bitOf (eqb (grantOf (c .kind) (held x)) 2)
@@ -76,7 +84,7 @@ refused-written r c e = λ i. bitOf (e i && writesTo r (c .kind))
 -- ---- the walk
 
 module _ (I : ℕ → (ℕ → ℕ) → St → Type 0) (P : Held → Call → Type 0)
-    (step : (k : ℕ) (g : ℕ → ℕ) (x : St) (d : Kind) → Good x → NumbersFit d → P (held x) (on x d) → I k g x
+    (step : (k : ℕ) (g : ℕ → ℕ) (x : St) (d : Kind) → Good x → numberOf d x ≡ 0 → NumbersFit d → P (held x) (on x d) → I k g x
     → I (bitOf (eqb (grantOf d (held x)) 2) + k) (λ r. bitOf (writesTo r d) + g r) (stepOf d x)) where
   -- where a list of calls leads
   pub record Walked (x : St) (cs : List Call) (k : ℕ) (g : ℕ → ℕ) : Type 0 where
@@ -107,12 +115,12 @@ module _ (I : ℕ → (ℕ → ℕ) → St → Type 0) (P : Held → Call → Ty
       → ((y : St) (j : ℕ) (f : ℕ → ℕ) → Good y → I j f y → Each (At P) (held y) cs → Walked y cs j f) → Walked x (c ∷ cs) k g
   branch x c cs k g good i at true ok rec =
       let a = at .0 ok in
-      let nx : next (held x) c ≡ held (stepOf (c .kind) x) = next-is x c good ok (a .lent) in
+      let nx : next (held x) c ≡ held (stepOf (c .kind) x) = next-is x c (good .sound) ok (a .lent) in
       let holds : P (held x) (on x (c .kind))
       = subst (λ (h : Held). P (held x) (record { kind = c .kind; lent = h })) (a .lent) (a .holds) in
       before x (stepOf (c .kind) x) c cs k (bitOf (eqb (grantOf (c .kind) (held x)) 2)) g (λ r. bitOf (writesTo r (c .kind))) nx
       (granted-at x c ok (a .lent)) (λ r. written-at r c ok)
-      (rec (stepOf (c .kind) x) _ _ (good-step x good (c .kind) (a .numbers)) (step k g x (c .kind) good (a .numbers) holds i)
+      (rec (stepOf (c .kind) x) _ _ (good-step x good (c .kind) (a .numbers)) (step k g x (c .kind) good (number-at x c (good .sound) ok (a .lent)) (a .numbers) holds i)
       (subst (λ (h : Held). Each (At P) h cs) nx (at .1)))
   branch x c cs k g good i at false e rec =
       let nx : next (held x) c ≡ held x = ap (λ (b : Bool). cond b (leaves c) (held x)) e in

@@ -4,4 +4,5 @@ pub mod Opening
 pub mod Packed
 pub mod Unpacked
 pub mod Sound
+pub mod SoundCalls
 pub mod Valid

@@ -19,8 +19,7 @@ use Rattle.controller.specs.Bytes.{bit, bitOf, word, long}
 use Rattle.controller.specs.Reu.{withRegs}
 use Rattle.controller.specs.Dma.{typeOf}
 use Rattle.controller.specs.Refusals.{wellFormed}
-use Rattle.controller.specs.Inner.{InRangeDma}
-use Rattle.controller.proofs.WellFormed.{well-range, well-shadow, well-delay}
+use Rattle.controller.proofs.WellFormed.{InRangeDma, well-range, well-shadow, well-delay}
 use Rattle.controller.specs.Dma.{typeNumber}
 use Rattle.image.specs.Layout.{phaseNumber, phaseOf, at, gets, present, flags18, flags19, flags33, transferBytes, middleBytes, packImage, dmaAt, transferAt, reuAt}
 use Rattle.image.specs.Open.{allZero, idleOk, movingOk, bytesOk, imageOk, openImage}

@@ -48,7 +48,7 @@ pub sound-typed : (u : Reu) → Sound u → Typed u
 sound-typed u s =
     record {
       regs-long = s .regs .len;
-      regs-bytes = record { below = s .regs .bytes };
+      regs-bytes = record { below = λ i. s .regs .fits i .byte };
       c64-fits = s .c64;
       len-fits = s .len;
       dma-fits = dma-typed (u .attached) (u .dma) (s .dma);
@@ -96,7 +96,7 @@ pub sound-of : (u : Reu) → Typed u → wellFormed u ≡ true → Sound u
 unfolding wellFormed
 sound-of u t e =
     record {
-      regs = record { len = t .regs-long; bytes = t .regs-bytes .below };
+      regs = record { len = t .regs-long; fits = λ i. record { byte = t .regs-bytes .below i } };
       c64 = t .c64-fits;
       exp = well-shadow u e;
       len = t .len-fits;

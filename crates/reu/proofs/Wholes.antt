@@ -1,15 +1,13 @@
 -- What each call on a sound controller answers: a refusal carries value 0, and the controller that is left can be stored.
 use Prim.Native.Nat.{ℕ, _<_}
 use mathlib.Core.Bool.{Bool}
-use mathlib.Core.Path.{_≡_, refl}
+use mathlib.Core.Path.{refl}
 use mathlib.Core.List.{List}
-use lib.ListN.{length}
 use lib.Dec.{eqb}
 use Rattle.controller.specs.declared.reu.Answer.{Answer}
 use Rattle.controller.specs.declared.reu.Reu.{Reu}
 use Rattle.controller.specs.Enable.{resetReu, setEnabled}
-use Rattle.controller.specs.Constants.{busSize, storageSize}
-use Rattle.controller.specs.Refusals.{refusalOf, checked}
+use Rattle.controller.specs.Refusals.{checked}
 use Rattle.controller.specs.Registers.{readRegister, writeRegister}
 use Rattle.controller.specs.StartDma.{triggerFf00}
 use Rattle.controller.specs.BusAction.{busAction, cpuReadyAfterDma}
@@ -18,7 +16,8 @@ use Rattle.controller.specs.Cycle.{runReuCycle}
 use Rattle.controller.specs.Calls.{answered, refused, resetCall, setEnabledCall, storagePresentCall, capacityBytesCall, triggerCall, readCall, writeCall, dmaActiveCall, busActionCall, cpuReadyCall, debugRegisterCall, c64AccessCall, tickCall, cycleCall}
 use Rattle.controller.proofs.Pick.{by-test}
 use Rattle.image.specs.Valid.{Bytes}
-use Rattle.image.proofs.Sound.{Sound, sound-fresh, sound-trigger, sound-read, sound-write, sound-ready, sound-grant, sound-enabled, sound-tick-dma, sound-cycle}
+use Rattle.image.proofs.Sound.{Sound}
+use Rattle.image.proofs.SoundCalls.{SoundState, bytes-memory, sound-fresh, sound-trigger, sound-read, sound-write, sound-next, sound-switch, sound-tick-dma, sound-cycle}
 use Rattle.image.proofs.Valid.{sound-well}
 use Rattle.reu.specs.Inner.{Whole}
 
@@ -89,27 +88,28 @@ module _ (u : Reu) (s : Sound u) where
 
   pub cpu-ready-whole : (high : Bool) → Whole (cpuReadyCall u high)
   unfolding cpuReadyCall
-  cpu-ready-whole high = alone _ _ (cpuReadyAfterDma u high .reu) (sound-ready u high s)
+  cpu-ready-whole high = alone _ _ (cpuReadyAfterDma u high .reu) s
 
   -- ---- with a storage t, and with a bus m
 
-  module _ (t : List ℕ) (bt : Bytes t) where
+  module _ (t : List ℕ) where
     pub set-enabled-whole : (e : Bool) → Whole (setEnabledCall u t e .0)
     unfolding setEnabledCall
-    set-enabled-whole e = with-storage _ _ (setEnabled u t e .0) _ _ (sound-enabled u t e s bt .sound)
+    set-enabled-whole e = with-storage _ _ (setEnabled u t e .0) _ _ (sound-switch u t e s)
 
     pub bus-action-whole : (high phi1 : Bool) (n : ℕ) → Whole (busActionCall u t high phi1 n .0)
-    unfolding busActionCall
-    bus-action-whole high phi1 n =
-        with-storage _ _ (busAction u t high phi1 n .0 .reu) _ _
-        (sound-grant (length t) u t high phi1 n (record { sound = s; bytes = bt; size = refl }) .sound)
+    unfolding busActionCall busAction
+    bus-action-whole high phi1 n = with-storage _ _ (busAction u t high phi1 n .0 .reu) _ _ (sound-next u high phi1 n s .sound)
 
-    module _ (m : List ℕ) (bm : Bytes m) where
+    module _ (bt : Bytes t) (m : List ℕ) (bm : Bytes m) where
+      state : SoundState Bytes Bytes u m t
+      state = record { sound = s; bus = bm; storage = bt }
+
       pub tick-whole : (n : ℕ) (low : Bool) → Whole (tickCall u m t n low .0)
       unfolding tickCall
-      tick-whole n low = with-both _ _ (tickDma u m t n low .0 .reu) _ _ _ _ (sound-tick-dma u m t n low s bm bt .sound)
+      tick-whole n low = with-both _ _ (tickDma u m t n low .0 .reu) _ _ _ _ (sound-tick-dma Bytes Bytes bytes-memory bytes-memory u m t state n low .sound)
 
       pub cycle-whole : (high phi1 : Bool) (n : ℕ) (low : Bool) → Whole (cycleCall u m t high phi1 n low .0)
       unfolding cycleCall
       cycle-whole high phi1 n low =
-          with-both _ _ (runReuCycle u m t high phi1 n low .0 .reu) _ _ _ _ (sound-cycle u m t high phi1 n low s bm bt .sound)
+          with-both _ _ (runReuCycle u m t high phi1 n low .0 .reu) _ _ _ _ (sound-cycle Bytes Bytes bytes-memory bytes-memory u m t state high phi1 n low .sound)

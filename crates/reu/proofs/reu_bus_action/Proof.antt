@@ -27,12 +27,11 @@ finish-requires c κs =
     let its-open = c .before .before .before .before .before .before .before .«open» in
     let its-args = c .before .before .before .before .before .before .before .before .before .before .before .args in
     let image-bytes = bytes-of (its-args .image .now) (c .before .before .before .before .before .before .before .before .before .before .slice-known .given) in
-    let storage-bytes = bytes-of (its-args .storage .now) (c .before .before .before .before .before .before .before .before .before .slice-known2 .given) in
     let its-sound = sound (its-args .image .now) (its-open .result) (its-open .ensures) (its-if1 .left) image-bytes in
     record {
       whole =
           subst Whole (sym (ap (λ (x : Answer × List ℕ). x .0) (its-bus-action .ensures)))
-          (bus-action-whole (its-open .result .reu) its-sound (its-args .storage .now) storage-bytes (flag (its-args .ba-high)) (flag (its-args .ba-high-phi1)) (its-args .cycle));
+          (bus-action-whole (its-open .result .reu) its-sound (its-args .storage .now) (flag (its-args .ba-high)) (flag (its-args .ba-high-phi1)) (its-args .cycle));
       long = long (its-args .image .now) (its-open .result) (its-open .ensures) (its-if1 .left);
     }
 

@@ -26,12 +26,11 @@ finish-requires c κs =
     let its-open = c .before .before .before .before .before .before .before .«open» in
     let its-args = c .before .before .before .before .before .before .before .before .before .before .before .args in
     let image-bytes = bytes-of (its-args .image .now) (c .before .before .before .before .before .before .before .before .before .before .slice-known .given) in
-    let storage-bytes = bytes-of (its-args .storage .now) (c .before .before .before .before .before .before .before .before .before .slice-known2 .given) in
     let its-sound = sound (its-args .image .now) (its-open .result) (its-open .ensures) (its-if1 .left) image-bytes in
     record {
       whole =
           subst Whole (sym (ap (λ (x : Answer × List ℕ). x .0) (its-set-enabled .ensures)))
-          (set-enabled-whole (its-open .result .reu) its-sound (its-args .storage .now) storage-bytes (flag (its-args .enabled)));
+          (set-enabled-whole (its-open .result .reu) its-sound (its-args .storage .now) (flag (its-args .enabled)));
       long = long (its-args .image .now) (its-open .result) (its-open .ensures) (its-if1 .left);
     }
 
