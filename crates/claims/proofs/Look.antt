@@ -3,8 +3,8 @@ use Prim.Native.Nat.{ℕ, _/_, _%_, _<_}
 use mathlib.Core.Bool.{Bool, true, cond}
 use mathlib.Core.Path.{_≡_, refl, sym, ap, _∙_}
 use mathlib.Core.Logic.{inl, inr}
-use mathlib.Core.List.{_++_}
-use lib.ListN.{length, getD, List·getD-append}
+use mathlib.Core.List.{List, _++_}
+use lib.ListN.{length, getD, drop, List·getD-append}
 use lib.Seq.{getD-append-add, getD-take}
 use lib.Bits.{or-mod, or-zero-r, and-mask}
 use native.Mathlib.Omega.{arith}
@@ -15,14 +15,19 @@ use Rattle.controller.specs.Bytes.{bit}
 use Rattle.controller.specs.Reu.{reg}
 use Rattle.controller.proofs.Bits.{bit-zero, zero-bit}
 use Rattle.controller.specs.Registers.{readAt, readRegister, debugRegister as core-debugRegister}
-use Rattle.image.specs.Layout.{packImage, reuAt, present, middleBytes, transferBytes}
+use Rattle.image.specs.Fields.{laid}
+use Rattle.image.specs.Layout.{fields, imageSize, packImage, reuAt, present, otherNumbers}
 use Rattle.reu.specs.Exports.{reuDebugRegister}
 use Rattle.claims.specs.Calls.{Held, debugRegister, read, other}
 use Rattle.claims.specs.SwapTwice.{byte, Start, OfBlock, Shown, Ended}
+use Rattle.image.proofs.Opening.{opened-long}
+use Rattle.image.proofs.Packed.{pack-is}
+use Rattle.image.proofs.ByBytes.{registers-are, flags-byte, dma-none}
 use Rattle.image.proofs.Sound.{Sound}
 use Rattle.image.proofs.Valid.{open-sound, pack-back}
 use Rattle.claims.proofs.States.{St, held, Ready, ready-of}
 use Rattle.claims.proofs.Accepted.{alone, answer-is}
+use Rattle.claims.specs.Constants.{transferByte}
 use Rattle.claims.proofs.RegisterLaw.{Value, Seven, two, three, four, five, six, seven, eight, is-seven}
 
 upper-bits : (v : ℕ) → v < 256 → v / 64 % 2 ≡ 0 → v / 128 % 2 ≡ 0 → v / 64 ≡ 0
@@ -37,17 +42,19 @@ module _ (x : St) (sound : Sound (x .u)) where
   regs-11 : length (x .u .regs) ≡ 11
   regs-11 = sound .regs .len
 
+  abbrev others : List ℕ
+  others = laid (drop 11 fields) (otherNumbers (x .u))
+
   pub reg-byte : (i : ℕ) → i < 11 → byte (held x) i ≡ reg (x .u) i
-  unfolding packImage
-  reg-byte i h = List·getD-append (x .u .regs) (middleBytes (x .u) ++ transferBytes (x .u .dma)) 0 i (omega (arith, regs-11))
+  reg-byte i h =
+      ap (λ (l : List ℕ). getD l i 0) (pack-is (x .u) regs-11) ∙ List·getD-append (x .u .regs) others 0 i (omega (arith, regs-11))
 
-  pub present-byte : byte (held x) 21 ≡ present (x .u .dma)
-  unfolding packImage
+  pub present-byte : byte (held x) transferByte ≡ present (x .u .dma)
   present-byte =
-      ap (λ (i : ℕ). getD (packImage (x .u)) i 0) (omega (arith, regs-11))
-      ∙ getD-append-add (x .u .regs) (middleBytes (x .u) ++ transferBytes (x .u .dma)) 10 0
+      ap (λ (l : List ℕ). getD l transferByte 0) (pack-is (x .u) regs-11)
+      ∙ ap (λ (i : ℕ). getD (x .u .regs ++ others) i 0) (omega (arith, regs-11)) ∙ getD-append-add (x .u .regs) others 10 0
 
-  pub idle-byte : byte (held x) 21 ≡ 0 → x .u .dma ≡ Idle
+  pub idle-byte : byte (held x) transferByte ≡ 0 → x .u .dma ≡ Idle
   idle-byte e = go (x .u .dma) (sym present-byte ∙ e)
     where
       go : (d : Dma) → present d ≡ 0 → d ≡ Idle
@@ -106,9 +113,12 @@ module _ (k : Held) (st : Start k) where
   pub opened-is : held (opened k) ≡ k
   opened-is = λ i. record { image = pack-back (k .image) (st .image-bytes) (st .accepted) i; bus = k .bus; storage = k .storage }
 
+  long : length (k .image) ≡ imageSize
+  long = opened-long (k .image) (st .accepted)
+
   control : reg (reuAt (k .image)) 10 ≡ byte k 10
   unfolding reuAt
-  control = getD-take 11 (k .image) 10 0 (omega arith)
+  control = ap (λ (l : List ℕ). getD l 10 0) (registers-are (k .image) long) ∙ getD-take 11 (k .image) 10 0 (omega arith)
 
   unfixed : byte k 10 / 64 ≡ 0
   unfixed =
@@ -117,4 +127,8 @@ module _ (k : Held) (st : Start k) where
   pub opened-idling : Idling (opened k)
   unfolding reuAt
   opened-idling =
-      record { idle = rw (eq-eqb (byte k 21) 0 (st .idle)); attached = st .attached; free = ap (λ (v : ℕ). v / 64) control ∙ unfixed }
+      record {
+        idle = dma-none (k .image) long (st .idle);
+        attached = ap (λ (v : ℕ). bit v 2) (flags-byte (k .image) long) ∙ st .attached;
+        free = ap (λ (v : ℕ). v / 64) control ∙ unfixed;
+      }

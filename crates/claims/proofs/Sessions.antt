@@ -27,7 +27,9 @@ use Rattle.controller.specs.Calls.{actionNumber, readCall}
 use Rattle.image.specs.declared.Opened.{Opened}
 use Rattle.image.specs.Layout.{packImage, reuAt}
 use Rattle.image.specs.Open.{openImage}
-use Rattle.image.proofs.Opening.{opened-is}
+use Rattle.image.proofs.Opening.{opened-is, opened-long}
+use Rattle.image.proofs.ByBytes.{flags-byte}
+use Rattle.controller.specs.Bytes.{bit}
 use Rattle.image.proofs.Packed.{open-pack}
 use Rattle.reu.specs.Exports.{flag}
 use Rattle.claims.specs.Calls.{Held, Memories, setEnabled, triggerFf00, busAction, debugRegister, Kind, read, write, cycle, other, NumbersFit, Done, does, grantOf}
@@ -112,7 +114,9 @@ module _ (x : St) (g : Ready x) where
   unfolding reuAt
   level-is =
       let o : openImage (packImage (x .u)) ≡ record { refusal = 0; reu = x .u } = open-pack (x .u) (sound-typed (x .u) (g .sound)) (sound-well (x .u) (g .sound)) in
-      ap (λ (u : Reu). u .«irq_pending») (ap (λ (y : Opened). y .reu) (sym (opened-is (packImage (x .u)) (ap (λ (y : Opened). y .refusal) o)) ∙ o))
+      let z : openImage (packImage (x .u)) .refusal ≡ 0 = ap (λ (y : Opened). y .refusal) o in
+      ap (λ (v : ℕ). bit v 1) (sym (flags-byte (packImage (x .u)) (opened-long (packImage (x .u)) z)))
+      ∙ ap (λ (u : Reu). u .«irq_pending») (ap (λ (y : Opened). y .reu) (sym (opened-is (packImage (x .u)) z) ∙ o))
 
 -- ---- scripts from "new", and from "new, enabled"
 

@@ -21,6 +21,7 @@ use Rattle.image.specs.Layout.{present, packImage}
 use Rattle.image.proofs.Packed.{open-pack}
 use Rattle.reu.specs.Exports.{reuDebugRegister}
 use Rattle.controller.specs.Constants.{command}
+use Rattle.claims.specs.Constants.{transferByte}
 use Rattle.reu.specs.Exports.{refusalUnit}
 use Rattle.claims.specs.Calls.{Held, Memories, Kind, read, write, cycle, NumbersFit, grantOf, Call, Fits, leaves, accepts, next, after, Each, All, count}
 use Rattle.claims.specs.SwapTwice.{byte, IsIdle, Start, Step, cycles, reads, writes, AnyStep, NoWrite, register, writesTo, wrote, High, Run, OfBlock, swaps, Rewrites, Ended, OnceEnded, Parts, listOf, atRestart, RunA, RunB}
@@ -379,7 +380,7 @@ some-a k st =
 
 stays : (x : St) (d : Kind) → Ready x → Plain x d → stepOf d x .u .dma ≡ Idle → IsIdle (leaves (on x d))
 stays x d g o e =
-    ap (λ (h : Held). byte h 21) (leaves-is x (g .sound) d (ready-number x g d)) ∙ present-byte (stepOf d x) (ready-step x g d (o .numbers) .sound) ∙ ap present e
+    ap (λ (h : Held). byte h transferByte) (leaves-is x (g .sound) d (ready-number x g d)) ∙ present-byte (stepOf d x) (ready-step x g d (o .numbers) .sound) ∙ ap present e
 
 module _ (x : St) (ready : Ready x) (idle : x .u .dma ≡ Idle) where
   first : Plain x (read 0)

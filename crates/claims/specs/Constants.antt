@@ -1,5 +1,6 @@
 -- The numbers that only the claims cite.
 use Prim.Native.Nat.{ℕ}
+use Rattle.image.specs.Layout.{placeOf, flags, transfer}
 
 -- registers come again every 32 addresses
 abbrev pub registerWindow : ℕ
@@ -7,7 +8,7 @@ registerWindow = 32
 
 -- the image's bytes of flags and of whether a transfer is there
 abbrev pub flagsByte : ℕ
-flagsByte = 18
+flagsByte = placeOf flags
 
 abbrev pub transferByte : ℕ
-transferByte = 21
+transferByte = placeOf transfer

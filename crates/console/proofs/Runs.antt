@@ -9,6 +9,7 @@ use lib.ListN.{length}
 use borrow.Author.Tests.{eq-eqb, eqb-false, eqb-true, ne-eqb}
 use Rattle.controller.specs.Calls.{dmaActiveCall}
 use Rattle.controller.specs.Constants.{busSize}
+use Rattle.image.specs.Layout.{placeOf, transferExp}
 use Rattle.image.specs.Open.{openImage}
 use Rattle.reu.proofs.Families.{look-refused}
 use Rattle.reu.specs.Exports.{refusal, refusalUnit, reuBusAction, reuC64Access, reuCycle, reuDmaActive}
@@ -32,7 +33,7 @@ module _ (inputs number : ℕ) (i s : List ℕ) where
   not-asked {lent} h e = rw (ne-eqb lent busSize h) (λ j. (e j, s))
 
   pub asked : {lent : ℕ} {copy j t : List ℕ} {grant access at : ℕ} → lent ≡ busSize → copy ≡ copyOf i
-      → (grant, j, t) ≡ reuBusAction copy s (inputs / 4 % 2) (inputs / 2 % 2) number → access ≡ reuC64Access j → at ≡ longAt j 26
+      → (grant, j, t) ≡ reuBusAction copy s (inputs / 4 % 2) (inputs / 2 % 2) number → access ≡ reuC64Access j → at ≡ longAt j (placeOf transferExp)
       → (record { grant = grant; access = access % refusalUnit; offset = at % 524288 }, t)
       ≡ cond (eqb lent busSize) (askedOf inputs number i s) (refusedCycle 0, s)
   unfolding askedOf
@@ -41,7 +42,7 @@ module _ (inputs number : ℕ) (i s : List ℕ) where
       rw (eq-eqb lent busSize h)
       ((λ x. (record { grant = grant; access = a x % refusalUnit; offset = o x % 524288 }, t))
       ∙ ap
-      (λ (y : ℕ × List ℕ × List ℕ). (record { grant = y .0; access = reuC64Access (y .1) % refusalUnit; offset = longAt (y .1) 26 % 524288 }, y .2))
+      (λ (y : ℕ × List ℕ × List ℕ). (record { grant = y .0; access = reuC64Access (y .1) % refusalUnit; offset = longAt (y .1) (placeOf transferExp) % 524288 }, y .2))
       same)
 
 -- a cycle, from what was asked before it and what it answered and left

@@ -5,6 +5,7 @@ use mathlib.Core.List.{List, [], _∷_}
 use lib.Dec.{eqb}
 use lib.ListN.{getD}
 use Rattle.controller.specs.Bytes.{bit, bitOf}
+use Rattle.image.specs.Layout.{placeOf, transferExp}
 use Rattle.reu.specs.Exports.{refusalUnit, reuBusAction, reuC64Access, reuCycle, reuDmaActive}
 use Rattle.pane.specs.Answers.{accepted, refusedBy}
 use Rattle.pane.specs.Rows.{byteAt, copyOf, longAt}
@@ -21,11 +22,11 @@ abbrev pub refusedCycle : ℕ → Cycle
 refusedCycle answer = record { grant = answer; access = 0; offset = 0 }
 
 -- "it asks `bus_action`": asked before it of a copy of the image, with the access that is then ready (a refusal has the value 0,
--- which is none) and the storage's offset (bytes 26 to 28 of the image); and the storage after that
+-- which is none) and the storage's offset by the expansion address in it; and the storage after that
 unfoldable pub askedOf : ℕ → ℕ → List ℕ → List ℕ → (Cycle × List ℕ)
 askedOf inputs number i s =
     let g : (ℕ × List ℕ × List ℕ) = reuBusAction (copyOf i) s (bitOf (bit inputs 2)) (bitOf (bit inputs 1)) number in
-    (record { grant = g .0; access = reuC64Access (g .1) % refusalUnit; offset = longAt (g .1) 26 % 524288 }, g .2)
+    (record { grant = g .0; access = reuC64Access (g .1) % refusalUnit; offset = longAt (g .1) (placeOf transferExp) % 524288 }, g .2)
 
 -- the library's cycle: what it leaves; shown is what was asked before it, or that it was refused
 unfoldable pub cycleOf : ℕ → ℕ → List ℕ → List ℕ → List ℕ → (Cycle × List ℕ × List ℕ × List ℕ)

@@ -6,6 +6,7 @@ use lib.Dec.{leb, ltb}
 use borrow.Author.Tests.{leb-true, ltb-true}
 use Rattle.controller.specs.Prelude.{Reu, Dma, Idle, Running, DmaState}
 use Rattle.controller.specs.Constants.{expansionLimit, fullLength}
+use Rattle.controller.specs.Inner.{InRange, InRangeDma}
 use Rattle.controller.specs.Refusals.{wellTransfer, wellDma, wellFormed}
 
 pub fst : (a b : Bool) → (a && b) ≡ true → a ≡ true
@@ -16,15 +17,6 @@ pub snd : (a b : Bool) → (a && b) ≡ true → b ≡ true
 snd true b e = e
 snd false true e = refl
 snd false false e = e
-
-pub record InRange (d : DmaState) : Type 0 where
-  pub low : 1 ≤ d .remaining
-  pub high : d .remaining ≤ fullLength
-  pub addr : d .«reu_addr» .0 < expansionLimit
-
-abbrev pub InRangeDma : Dma → Type 0
-InRangeDma Idle = Unit {0}
-InRangeDma (Running d) = InRange d
 
 well-transfer : (d : DmaState) → wellTransfer d ≡ true → InRange d
 well-transfer d e =

@@ -14,3 +14,4 @@ pub mod TickDma
 pub mod Cycle
 pub mod Refusals
 pub mod Calls
+pub mod Inner

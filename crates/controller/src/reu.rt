@@ -2,7 +2,7 @@
 ghost use mathlib.Core.Path.{_≡_};
 ghost use Rattle.controller.specs.Bytes.{bitOf};
 ghost use Rattle.controller.specs.Enable.{disabled, fresh, newReu, resetReu, setEnabled};
-ghost use Rattle.controller.specs.Calls.{accessNumber, actionNumber, answered, busActionCall, c64AccessCall, capacity, capacityBytesCall, cpuReadyCall, cycleCall, debugRegisterCall, dmaActiveCall, readCall, refused, resetCall, setEnabledCall, storagePresentCall, tickCall, triggerCall, writeCall};
+ghost use Rattle.controller.specs.Calls.{accessNumber, actionNumber, answered, busActionCall, c64AccessCall, call, capacity, capacityBytesCall, cpuReadyCall, cycleCall, debugRegisterCall, dmaActiveCall, readCall, refused, resetCall, setEnabledCall, storagePresentCall, tickCall, triggerCall, writeCall};
 use crate::constants::ACCEPTED;
 use crate::constants::ACCESS_KIND;
 use crate::constants::ADDRESS_CONTROL_UNUSED_READ_HIGH;
@@ -220,112 +220,83 @@ impl Reu {
         }
     }
 
-    // Hard and soft reset do the same.
-    pub fn reset(self, _hard_reset: bool) -> Answer
-        ensures { λ r. ⌜ r ≡ resetCall self ⌝ }
+    // The answer of a call that lends neither bus nor storage: its value and the controller after it, unless the controller is refused.
+    fn tested(self, value: u32, after: Reu) -> Answer
+        ensures { λ r. ⌜ r ≡ call self (answered value after) ⌝ }
     {
         let refusal = self.refusal(BUS_BYTES, REU_1764_CAPACITY_BYTES);
         if refusal != ACCEPTED {
             return self.refused(refusal);
         }
-        self.after_reset().answered(0)
+        after.answered(value)
+    }
+
+    // Hard and soft reset do the same.
+    pub fn reset(self, _hard_reset: bool) -> Answer
+        ensures { λ r. ⌜ r ≡ resetCall self ⌝ }
+    {
+        self.tested(0, self.after_reset())
     }
 
     pub fn storage_present(self) -> Answer
         ensures { λ r. ⌜ r ≡ storagePresentCall self ⌝ }
     {
-        let refusal = self.refusal(BUS_BYTES, REU_1764_CAPACITY_BYTES);
-        if refusal != ACCEPTED {
-            return self.refused(refusal);
-        }
-        self.answered(flag_number(self.attached))
+        self.tested(flag_number(self.attached), self)
     }
 
     pub fn capacity_bytes(self) -> Answer
         ensures { λ r. ⌜ r ≡ capacityBytesCall self ⌝ }
     {
-        let refusal = self.refusal(BUS_BYTES, REU_1764_CAPACITY_BYTES);
-        if refusal != ACCEPTED {
-            return self.refused(refusal);
-        }
-        self.answered(capacity(self.attached))
+        self.tested(capacity(self.attached), self)
     }
 
     pub fn trigger_ff00(self) -> Answer
         ensures { λ r. ⌜ r ≡ triggerCall self ⌝ }
     {
-        let refusal = self.refusal(BUS_BYTES, REU_1764_CAPACITY_BYTES);
-        if refusal != ACCEPTED {
-            return self.refused(refusal);
-        }
-        self.trigger().answered(0)
+        self.tested(0, self.trigger())
     }
 
     pub fn read(self, addr: u16) -> Answer
         ensures { λ r. ⌜ r ≡ readCall self addr ⌝ }
     {
-        let refusal = self.refusal(BUS_BYTES, REU_1764_CAPACITY_BYTES);
-        if refusal != ACCEPTED {
-            return self.refused(refusal);
-        }
         let out = self.read_register(addr);
         let reu = out.reu;
-        reu.answered(out.value as u32)
+        self.tested(out.value as u32, reu)
     }
 
     pub fn write(self, addr: u16, value: u8) -> Answer
         ensures { λ r. ⌜ r ≡ writeCall self addr value ⌝ }
     {
-        let refusal = self.refusal(BUS_BYTES, REU_1764_CAPACITY_BYTES);
-        if refusal != ACCEPTED {
-            return self.refused(refusal);
-        }
-        self.write_register(addr, value).answered(0)
+        self.tested(0, self.write_register(addr, value))
     }
 
     pub fn dma_active(self) -> Answer
         ensures { λ r. ⌜ r ≡ dmaActiveCall self ⌝ }
     {
-        let refusal = self.refusal(BUS_BYTES, REU_1764_CAPACITY_BYTES);
-        if refusal != ACCEPTED {
-            return self.refused(refusal);
-        }
         let dma = self.dma;
-        self.answered(flag_number(dma.is_active()))
+        self.tested(flag_number(dma.is_active()), self)
     }
 
     pub fn cpu_ready_after_dma(self, ba_high: bool) -> Answer
         ensures { λ r. ⌜ r ≡ cpuReadyCall self «ba_high» ⌝ }
     {
-        let refusal = self.refusal(BUS_BYTES, REU_1764_CAPACITY_BYTES);
-        if refusal != ACCEPTED {
-            return self.refused(refusal);
-        }
         let out = self.cpu_ready(ba_high);
         let reu = out.reu;
-        reu.answered(flag_number(out.flag))
+        self.tested(flag_number(out.flag), reu)
     }
 
     pub fn debug_register(self, index: u64) -> Answer
         ensures { λ r. ⌜ r ≡ debugRegisterCall self index ⌝ }
     {
-        let refusal = self.refusal(BUS_BYTES, REU_1764_CAPACITY_BYTES);
-        if refusal != ACCEPTED {
-            return self.refused(refusal);
-        }
         let value = self.register_at(index);
-        self.answered(value as u32)
+        self.tested(value as u32, self)
     }
 
     pub fn c64_access(self) -> Answer
         ensures { λ r. ⌜ r ≡ c64AccessCall self ⌝ }
     {
-        let refusal = self.refusal(BUS_BYTES, REU_1764_CAPACITY_BYTES);
-        if refusal != ACCEPTED {
-            return self.refused(refusal);
-        }
         let access = self.next_access();
-        self.answered(access.number())
+        self.tested(access.number(), self)
     }
 
     pub fn set_enabled(self, storage: &mut [u8], enabled: bool) -> Answer

@@ -1,11 +1,15 @@
--- A list that is long enough, element by element.
+-- A list that is long enough, element by element: what the code reads, and what the definitions then compute on.
 use mathlib.Core.Path.{_≡_, refl, sym, ap, _∙_}
-use mathlib.Core.List.{List, [], _∷_, _++_}
-use Prim.Native.Nat.{ℕ, zero, suc, _+_, _≤_, _<_}
+use mathlib.Core.List.{List, [], _∷_}
+use Prim.Native.Nat.{ℕ, zero, suc, _+_, _≤_}
 use native.Mathlib.Omega.{arith}
 use lib.ListN.{length, getD, take, drop, length-drop}
 use lib.Seq.{drop-cons, take-length, take-all}
-use Rattle.image.specs.Layout.{gets}
+
+-- n elements of s, from i on
+abbrev pub gets : ℕ → ℕ → List ℕ → List ℕ
+gets i zero s = []
+gets i (suc n) s = getD s i 0 ∷ gets (suc i) n s
 
 pub gets-slice : (s : List ℕ) (i n : ℕ) → i + n ≤ length s → gets i n s ≡ take n (drop i s)
 gets-slice s i zero h = refl
@@ -13,9 +17,6 @@ gets-slice s i (suc n) h = rw (drop-cons s i 0 (omega arith)) (ap (λ (l : List 
 
 pub gets-all : (s : List ℕ) (n : ℕ) → length s ≡ n → gets 0 n s ≡ s
 gets-all s n h = gets-slice s 0 n (omega arith) ∙ rw (sym h) (take-length s)
-
-pub gets-three : (a b c : List ℕ) (k m n : ℕ) → length a ≡ k → length b ≡ m → length c ≡ n → gets 0 k a ++ (gets 0 m b ++ gets 0 n c) ≡ a ++ (b ++ c)
-gets-three a b c k m n p q r = λ i. gets-all a k p i ++ (gets-all b m q i ++ gets-all c n r i)
 
 pub gets-rest : (s : List ℕ) (i n : ℕ) → length s ≡ i + n → gets i n s ≡ drop i s
 gets-rest s i n h = gets-slice s i n (omega arith) ∙ take-all n (drop i s) (simp length-drop (omega arith))

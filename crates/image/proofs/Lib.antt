@@ -1,6 +1,9 @@
+pub mod Radix
+pub mod Fields
 pub mod Gets
-pub mod Digits
+pub mod Flags
 pub mod Opening
+pub mod ByBytes
 pub mod Packed
 pub mod Unpacked
 pub mod Sound

@@ -1,30 +1,31 @@
 -- Packing what opening gave is the image again.
-use mathlib.Core.Path.{_≡_, refl, sym, ap, ap₂, _∙_, subst}
-use mathlib.Core.Bool.{Bool, true, false, cond, _&&_, false≢true}
+use mathlib.Core.Path.{_≡_, refl, sym, ap, ap₂, _∙_}
+use mathlib.Core.Bool.{Bool, true, false, cond, not, _||_}
 use mathlib.Core.List.{List, [], _∷_, _++_}
-use Prim.Native.Nat.{ℕ, zero, suc, _+_, _*_, _/_, _%_, _^_, _≤_, _<_}
+use Prim.Native.Nat.{ℕ, zero, suc, _-_, _<_}
 use native.Mathlib.Omega.{arith}
-use lib.ListN.{length, getD, take, drop, replicate, take-append-drop, length-drop}
-use lib.Dec.{eqb, ltb, leb}
-use borrow.Author.Tests.{lt-ltb, ltb-true, leb-true, eqb-true, eqb-false, eq-eqb, ne-eqb}
+use lib.ListN.{length, getD, take, drop, replicate, take-append-drop}
+use lib.Seq.{length-take-le}
+use lib.Dec.{eqb}
+use borrow.Author.Tests.{eqb-true, eqb-false}
 use Rattle.controller.specs.declared.dma.Dma.{Dma}
 use Rattle.controller.specs.declared.dma.Dma.the-variants.{Idle, Running}
-use Rattle.controller.specs.Bytes.{bit, bitOf, word, long}
-use Rattle.controller.specs.Dma.{typeOf}
+use Rattle.controller.specs.Dma.{typeNumber, typeOf}
 use Rattle.controller.specs.Refusals.{wellFormed}
-use Rattle.controller.proofs.Bits.{bit-digit}
-use Rattle.controller.specs.Dma.{typeNumber}
-use Rattle.image.specs.Layout.{phaseNumber, phaseOf, at, gets, present, flags18, flags19, flags33, transferBytes, middleBytes, packImage, dmaAt, transferAt, reuAt}
-use Rattle.image.specs.Open.{allZero, idleOk, movingOk, bytesOk, imageOk, openImage}
-use lib.Seq.{length-take-le}
-use Rattle.image.specs.Valid.{Bytes, Typed, DmaTyped}
-use Rattle.image.proofs.Gets.{gets-rest}
-use Rattle.image.proofs.Digits.{byte-of-bits, six-of-bits}
-use Rattle.image.proofs.Opening.{ok-idle, ok-moving, opened-is, opened-long, opened-ok}
 use Rattle.image.specs.declared.Opened.{Opened}
-use Rattle.image.proofs.Packed.{and-left, and-right}
+use Rattle.image.specs.Radix.{below}
+use Rattle.image.specs.Fields.{radices, values, laid, lifted}
+use Rattle.controller.specs.Constants.{registerCount}
+use Rattle.image.specs.Layout.{fields, imageSize, at, shadowC64, shadowExp, shadowLength, flags, moreFlags, delay, transfer, kind, phase, transferC64, transferExp, remaining, latch, options, transferFields, phaseNumber, phaseOf, present, transferNumbers, numbersOf, packImage, transferOf, dmaIn, controllerOf, reuAt}
+use Rattle.image.specs.Open.{allZero, idleOk, bytesOk, imageOk, openImage}
+use Rattle.image.specs.Valid.{Bytes, Typed, DmaTyped}
+use Rattle.image.proofs.Radix.{Below}
+use Rattle.image.proofs.Fields.{and-left, and-right, below-test, below-at, below-front, byte-of, lifted-long, laid-lifted}
+use Rattle.image.proofs.Flags.{flags-back}
+use Rattle.image.proofs.Gets.{gets, gets-slice, gets-rest}
+use Rattle.image.proofs.Opening.{opened-is, opened-long, opened-ok}
 
-type-number-back : (n : ℕ) → n ≤ 3 → typeNumber (typeOf n) ≡ n
+type-number-back : (n : ℕ) → n < 4 → typeNumber (typeOf n) ≡ n
 unfolding typeOf
 type-number-back zero h = refl
 type-number-back (suc zero) h = refl
@@ -32,150 +33,98 @@ type-number-back (suc (suc zero)) h = refl
 type-number-back (suc (suc (suc zero))) h = refl
 type-number-back (suc (suc (suc (suc n)))) h = absurd (omega arith)
 
-phase-number-back : (n : ℕ) → n ≤ 1 → phaseNumber (phaseOf n) ≡ n
+phase-number-back : (n : ℕ) → n < 2 → phaseNumber (phaseOf n) ≡ n
 phase-number-back zero h = refl
 phase-number-back (suc zero) h = refl
 phase-number-back (suc (suc n)) h = absurd (omega arith)
-
--- the bytes of a number of two bytes, and of three
-module _ (x y z : ℕ) (hx : x < 256) (hy : y < 256) (hz : z < 256) where
-  two-0 : word x y % 256 ≡ x
-  two-0 = omega arith
-
-  two-1 : word x y / 256 % 256 ≡ y
-  two-1 = omega arith
-
-  three-0 : long x y z % 256 ≡ x
-  three-0 = omega arith
-
-  three-1 : long x y z / 256 % 256 ≡ y
-  three-1 = omega arith
-
-  three-2 : long x y z / 65536 % 256 ≡ z
-  three-2 = omega arith
-
--- a byte made of its bits
-byte-back : (x : ℕ) → x < 256 → bitOf (bit x 0) + 2 * bitOf (bit x 1) + 4 * bitOf (bit x 2) + 8 * bitOf (bit x 3) + 16 * bitOf (bit x 4) + 32 * bitOf (bit x 5) + 64 * bitOf (bit x 6) + 128 * bitOf (bit x 7) ≡ x
-byte-back x h = (λ i. bit-digit x 0 i + 2 * bit-digit x 1 i + 4 * bit-digit x 2 i + 8 * bit-digit x 3 i + 16 * bit-digit x 4 i + 32 * bit-digit x 5 i + 64 * bit-digit x 6 i + 128 * bit-digit x 7 i) ∙ byte-of-bits x h
-
-six-back : (x : ℕ) → x < 64 → bitOf (bit x 0) + 2 * bitOf (bit x 1) + 4 * bitOf (bit x 2) + 8 * bitOf (bit x 3) + 16 * bitOf (bit x 4) + 32 * bitOf (bit x 5) ≡ x
-six-back x h = (λ i. bit-digit x 0 i + 2 * bit-digit x 1 i + 4 * bit-digit x 2 i + 8 * bit-digit x 3 i + 16 * bit-digit x 4 i + 32 * bit-digit x 5 i) ∙ six-of-bits x h
-
-two-back : (x : ℕ) → x < 4 → bitOf (bit x 0) + 2 * bitOf (bit x 1) ≡ x
-two-back x h = (λ i. bit-digit x 0 i + 2 * bit-digit x 1 i) ∙ omega arith
 
 -- a list that is all zeros
 zeros-are : (l : List ℕ) → allZero l ≡ true → l ≡ replicate (length l) 0
 zeros-are [] h = refl
 zeros-are (a ∷ l) h = ap₂ _∷_ (eqb-true a 0 (and-left (eqb a 0) (allZero l) h)) (zeros-are l (and-right (eqb a 0) (allZero l) h))
 
-take-below : (k : ℕ) (l : List ℕ) → ((j : ℕ) → getD l j 0 < 256) → (j : ℕ) → getD (take k l) j 0 < 256
-take-below zero l h j = omega arith
-take-below (suc k) [] h j = h j
-take-below (suc k) (x ∷ l) h zero = h zero
-take-below (suc k) (x ∷ l) h (suc j) = take-below k l (λ i. h (suc i)) j
+-- ---- numbers in their ranges are those of their controller
 
-module _ (s : List ℕ) (whole : Bytes s) (long : length s ≡ 34) (ok : imageOk s ≡ true) where
-  bytes : (i : ℕ) → at s i < 256
-  bytes = whole .below
+abbrev count : ℕ
+count = length (values fields)
 
-  bytes-good : bytesOk s ≡ true
-  unfolding imageOk
-  bytes-good = and-left (bytesOk s) (wellFormed (reuAt s)) ok
+module _ (ns : List ℕ) (long : length ns ≡ count) (fit : Below (values fields) ns) (idle : idleOk ns ≡ true) where
+  under : (k : ℕ) → k < count → at ns k < getD (values fields) k 0
+  under k h = below-at (values fields) ns fit k h
 
-  -- with no transfer
-  module _ (none : at s 21 ≡ 0) where
-    idle-good : ltb (at s 19) 4 && idleOk s ≡ true
-    idle-good = sym (ok-idle s none) ∙ bytes-good
+  -- the transfer's numbers, and whether there is one
+  abbrev Tail : Dma → Type 0
+  Tail m = (present m ≡ at ns transfer) × (transferNumbers m ≡ gets kind transferFields ns)
 
-    idle-tail : transferBytes (dmaAt s) ≡ drop 22 s
-    unfolding idleOk
-    idle-tail =
-        let twelve : length (drop 22 s) ≡ 12 = simp length-drop (omega arith) in
-        ap (λ (t : Bool). transferBytes (cond t Idle (Running (transferAt s)))) (eq-eqb (at s 21) 0 none)
-        ∙ sym (zeros-are (drop 22 s) (and-right (ltb (at s 19) 4) (idleOk s) idle-good) ∙ ap (λ (n : ℕ). replicate n 0) twelve)
+  idle-tail : at ns transfer ≡ 0 → allZero (take transferFields (drop kind ns)) ≡ true → Tail Idle
+  idle-tail none zeros =
+      let t : gets kind transferFields ns ≡ take transferFields (drop kind ns) = gets-slice ns kind transferFields (omega arith) in
+      (sym none, sym (zeros-are (gets kind transferFields ns) (ap allZero t ∙ zeros)))
 
-    idle-present : present (dmaAt s) ≡ at s 21
-    idle-present = ap (λ (t : Bool). present (cond t Idle (Running (transferAt s)))) (eq-eqb (at s 21) 0 none) ∙ sym none
+  moving-tail : (at ns transfer ≡ 0 → ⊥) → Tail (Running (transferOf ns))
+  moving-tail some = (
+    omega (arith, under transfer (omega arith), some),
+    λ i. type-number-back (at ns kind) (under kind (omega arith)) i ∷ phase-number-back (at ns phase) (under phase (omega arith)) i
+        ∷ at ns transferC64 ∷ at ns transferExp ∷ at ns remaining ∷ at ns latch ∷ flags-back 5 (at ns options) (under options (omega arith)) i ∷ [],
+  )
 
-  -- with one
-  module _ (some : at s 21 ≡ 0 → ⊥) where
-    moving-good : movingOk s ≡ true
-    moving-good = and-right (ltb (at s 19) 4) (movingOk s) (sym (ok-moving s some) ∙ bytes-good)
-
-    one : at s 21 ≡ 1
-    one = eqb-true (at s 21) 1 (and-left (eqb (at s 21) 1) (leb (at s 22) 3) (and-left _ (leb (at s 23) 1) (and-left _ (ltb (at s 33) 64) moving-good)))
-
-    kind-le : at s 22 ≤ 3
-    kind-le = leb-true (at s 22) 3 (and-right (eqb (at s 21) 1) (leb (at s 22) 3) (and-left _ (leb (at s 23) 1) (and-left _ (ltb (at s 33) 64) moving-good)))
-
-    phase-le : at s 23 ≤ 1
-    phase-le = leb-true (at s 23) 1 (and-right (eqb (at s 21) 1 && leb (at s 22) 3) (leb (at s 23) 1) (and-left _ (ltb (at s 33) 64) moving-good))
-
-    flags-lt : at s 33 < 64
-    flags-lt = ltb-true (at s 33) 64 (and-right (eqb (at s 21) 1 && leb (at s 22) 3 && leb (at s 23) 1) (ltb (at s 33) 64) moving-good)
-
-    moving-tail : transferBytes (dmaAt s) ≡ drop 22 s
-    moving-tail =
-        ap (λ (t : Bool). transferBytes (cond t Idle (Running (transferAt s)))) (ne-eqb (at s 21) 0 some)
-        ∙ (λ i. type-number-back (at s 22) kind-le i
-        ∷ phase-number-back (at s 23) phase-le i
-        ∷ two-0 (at s 24) (at s 25) 0 (bytes 24) (bytes 25) (omega arith) i ∷ two-1 (at s 24) (at s 25) 0 (bytes 24) (bytes 25) (omega arith) i
-        ∷ three-0 (at s 26) (at s 27) (at s 28) (bytes 26) (bytes 27) (bytes 28) i ∷ three-1 (at s 26) (at s 27) (at s 28) (bytes 26) (bytes 27) (bytes 28) i ∷ three-2 (at s 26) (at s 27) (at s 28) (bytes 26) (bytes 27) (bytes 28) i
-        ∷ three-0 (at s 29) (at s 30) (at s 31) (bytes 29) (bytes 30) (bytes 31) i ∷ three-1 (at s 29) (at s 30) (at s 31) (bytes 29) (bytes 30) (bytes 31) i ∷ three-2 (at s 29) (at s 30) (at s 31) (bytes 29) (bytes 30) (bytes 31) i
-        ∷ at s 32
-        ∷ six-back (at s 33) flags-lt i ∷ [])
-        ∙ gets-rest s 22 12 long
-
-    moving-present : present (dmaAt s) ≡ at s 21
-    moving-present = ap (λ (t : Bool). present (cond t Idle (Running (transferAt s)))) (ne-eqb (at s 21) 0 some) ∙ sym one
-
-  tail-and-present : (transferBytes (dmaAt s) ≡ drop 22 s) × (present (dmaAt s) ≡ at s 21)
-  tail-and-present = go (eqb (at s 21) 0) refl
+  tail : Tail (dmaIn ns)
+  tail = go (eqb (at ns transfer) 0) refl idle
     where
-      go : (t : Bool) → eqb (at s 21) 0 ≡ t → (transferBytes (dmaAt s) ≡ drop 22 s) × (present (dmaAt s) ≡ at s 21)
-      go true e = (idle-tail (eqb-true _ _ e), idle-present (eqb-true _ _ e))
-      go false e = (moving-tail (eqb-false _ _ e), moving-present (eqb-false _ _ e))
+      go : (t : Bool) → eqb (at ns transfer) 0 ≡ t → not t || allZero (take transferFields (drop kind ns)) ≡ true
+          → Tail (cond t Idle (Running (transferOf ns)))
+      go true e z = idle-tail (eqb-true _ _ e) z
+      go false e z = moving-tail (eqb-false _ _ e)
 
-  head-good : ltb (at s 19) 4 ≡ true
+  pub numbers-of : numbersOf (controllerOf ns) ≡ ns
+  numbers-of =
+      ap (λ (l : List ℕ). take registerCount ns ++ l)
+      ((λ i. at ns shadowC64 ∷ at ns shadowExp ∷ at ns shadowLength ∷ flags-back 7 (at ns flags) (under flags (omega arith)) i ∷ flags-back 1 (at ns moreFlags) (under moreFlags (omega arith)) i
+      ∷ at ns delay ∷ tail .0 i ∷ tail .1 i)
+      ∙ gets-rest ns registerCount (count - registerCount) long)
+      ∙ take-append-drop registerCount ns
+
+  dma-typed : DmaTyped (dmaIn ns)
+  dma-typed = go (eqb (at ns transfer) 0)
+    where
+      go : (t : Bool) → DmaTyped (cond t Idle (Running (transferOf ns)))
+      go true = tt
+      go false = (under transferC64 (omega arith), under latch (omega arith))
+
+  pub numbers-typed : Typed (controllerOf ns)
+  numbers-typed = record {
+    regs-long = length-take-le registerCount ns (omega arith);
+    regs-bytes = record { below = byte-of registerCount (take registerCount ns) (below-front (radices registerCount) (drop registerCount (values fields)) ns fit) };
+    c64-fits = under shadowC64 (omega arith);
+    len-fits = under shadowLength (omega arith);
+    dma-fits = dma-typed;
+  }
+
+module _ (s : List ℕ) (whole : Bytes s) (long : length s ≡ imageSize) (ok : imageOk s ≡ true) where
+  good : bytesOk s ≡ true
+  unfolding imageOk
+  good = and-left (bytesOk s) (wellFormed (reuAt s)) ok
+
+  counted : length (lifted fields s) ≡ count
+  counted = lifted-long fields s
+
+  fit : Below (values fields) (lifted fields s)
   unfolding bytesOk
-  head-good = and-left (ltb (at s 19) 4) _ bytes-good
+  fit = below-test (values fields) (lifted fields s) counted (and-left (below (values fields) (lifted fields s)) (idleOk (lifted fields s)) good)
 
-  middle : middleBytes (reuAt s) ++ transferBytes (dmaAt s) ≡ drop 11 s
-  unfolding reuAt
-  middle =
-      (λ i. two-0 (at s 11) (at s 12) 0 (bytes 11) (bytes 12) (omega arith) i ∷ two-1 (at s 11) (at s 12) 0 (bytes 11) (bytes 12) (omega arith) i
-      ∷ three-0 (at s 13) (at s 14) (at s 15) (bytes 13) (bytes 14) (bytes 15) i ∷ three-1 (at s 13) (at s 14) (at s 15) (bytes 13) (bytes 14) (bytes 15) i ∷ three-2 (at s 13) (at s 14) (at s 15) (bytes 13) (bytes 14) (bytes 15) i
-      ∷ two-0 (at s 16) (at s 17) 0 (bytes 16) (bytes 17) (omega arith) i ∷ two-1 (at s 16) (at s 17) 0 (bytes 16) (bytes 17) (omega arith) i
-      ∷ byte-back (at s 18) (bytes 18) i
-      ∷ two-back (at s 19) (ltb-true (at s 19) 4 head-good) i
-      ∷ at s 20
-      ∷ tail-and-present .1 i
-      ∷ (tail-and-present .0 ∙ sym (gets-rest s 22 12 long)) i)
-      ∙ gets-rest s 11 23 long
+  idle : idleOk (lifted fields s) ≡ true
+  unfolding bytesOk
+  idle = and-right (below (values fields) (lifted fields s)) (idleOk (lifted fields s)) good
 
   -- packing what opening gave is the image again
   pub pack-open : packImage (reuAt s) ≡ s
   unfolding packImage reuAt
-  pack-open = ap (λ (l : List ℕ). take 11 s ++ l) middle ∙ take-append-drop 11 s
+  pack-open = ap (laid fields) (numbers-of (lifted fields s) counted fit idle) ∙ laid-lifted fields s (whole .below) long
 
   -- a controller that was opened is in range
-  dma-typed : DmaTyped (dmaAt s)
-  dma-typed = go (eqb (at s 21) 0)
-    where
-      go : (t : Bool) → DmaTyped (cond t Idle (Running (transferAt s)))
-      go true = tt
-      go false = (omega (arith, bytes 24, bytes 25), bytes 32)
-
   pub opened-typed : Typed (reuAt s)
   unfolding reuAt
-  opened-typed = record {
-    regs-long = length-take-le 11 s (omega arith);
-    regs-bytes = record { below = take-below 11 s bytes };
-    c64-fits = omega (arith, bytes 11, bytes 12);
-    len-fits = omega (arith, bytes 16, bytes 17);
-    dma-fits = dma-typed;
-  }
+  opened-typed = numbers-typed (lifted fields s) counted fit idle
 
   pub opened-well : wellFormed (reuAt s) ≡ true
   unfolding imageOk

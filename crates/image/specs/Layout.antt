@@ -1,121 +1,195 @@
--- The image record: 34 bytes, low byte first.
-use Rattle.controller.specs.Prelude.{ℕ, _+_, _*_, cond, List, [], _∷_, eqb, getD}
+-- The image record: one list of fields, from which packing, opening, the ranges and every place follow.
+use Rattle.controller.specs.Prelude.{ℕ, _+_, _-_, _^_, Bool, cond, List, [], _∷_, eqb, getD, length, replicate}
 use Rattle.controller.specs.declared.dma.SwapPhase.{SwapPhase}
 use Rattle.controller.specs.declared.dma.SwapPhase.the-variants.{ReadC64, WriteC64}
 use Rattle.controller.specs.declared.dma.DmaState.{DmaState}
 use Rattle.controller.specs.declared.dma.Dma.{Dma}
 use Rattle.controller.specs.declared.dma.Dma.the-variants.{Idle, Running}
 use Rattle.controller.specs.declared.reu.Reu.{Reu}
-use Prim.Native.Nat.{zero, suc}
-use mathlib.Core.List.{_++_}
+use mathlib.Core.List.{_++_, map}
 use lib.ListN.{take}
-use Rattle.controller.specs.Constants.{registerCount}
-use Rattle.controller.specs.Bytes.{bit, bitOf, lowByte, highByte, bankByte, word, long}
+use Rattle.controller.specs.Constants.{registerCount, busSize, expansionLimit, fullLength}
+use Rattle.controller.specs.Bytes.{bit, bitOf}
 use Rattle.controller.specs.Dma.{typeNumber, typeOf}
+use Rattle.image.specs.Radix.{joined}
+use Rattle.image.specs.Fields.{size, laid, lifted}
+
+-- "34 bytes, low byte first: 0-10 registers; 11-12, 13-15, 16-17 the shadows C64, expansion, length; 18 from bit 0: ..; 19 ..; 20 delay 0-2; 21
+-- transfer present 0/1; 22 type 0-3; 23 phase ..; 24-25 C64 address; 26-28 expansion address; 29-31 remaining; 32 latch; 33 from bit 0: ..": of
+-- each field its width in bytes, and how many values it has
+abbrev pub fields : List (ℕ × ℕ)
+fields =
+    replicate registerCount (1, 256)
+    ++ ((2, busSize)  -- shadow C64
+    ∷ (3, expansionLimit)  -- shadow expansion
+    ∷ (2, 65536)  -- shadow length
+    ∷ (1, 2 ^ 8)  -- flags
+    ∷ (1, 2 ^ 2)  -- more flags
+    ∷ (1, 3)  -- delay
+    ∷ (1, 2)  -- transfer present
+    ∷ (1, 4)  -- type
+    ∷ (1, 2)  -- phase
+    ∷ (2, busSize)  -- C64 address
+    ∷ (3, expansionLimit)  -- expansion address
+    ∷ (3, fullLength + 1)  -- remaining
+    ∷ (1, 256)  -- latch
+    ∷ (1, 2 ^ 6)  -- options
+    ∷ [])
 
 abbrev pub imageSize : ℕ
-imageSize = 34
+imageSize = size fields
 
--- ---- packing
+-- ---- the fields after the registers by their rank in the list, and where a field starts
+
+abbrev pub shadowC64 : ℕ
+shadowC64 = registerCount
+
+abbrev pub shadowExp : ℕ
+shadowExp = shadowC64 + 1
+
+abbrev pub shadowLength : ℕ
+shadowLength = shadowExp + 1
+
+abbrev pub flags : ℕ
+flags = shadowLength + 1
+
+abbrev pub moreFlags : ℕ
+moreFlags = flags + 1
+
+abbrev pub delay : ℕ
+delay = moreFlags + 1
+
+abbrev pub transfer : ℕ
+transfer = delay + 1
+
+abbrev pub kind : ℕ
+kind = transfer + 1
+
+abbrev pub phase : ℕ
+phase = kind + 1
+
+abbrev pub transferC64 : ℕ
+transferC64 = phase + 1
+
+abbrev pub transferExp : ℕ
+transferExp = transferC64 + 1
+
+abbrev pub remaining : ℕ
+remaining = transferExp + 1
+
+abbrev pub latch : ℕ
+latch = remaining + 1
+
+abbrev pub options : ℕ
+options = latch + 1
+
+abbrev pub placeOf : ℕ → ℕ
+placeOf k = size (take k fields)
+
+-- ---- packing: the number of each field
+
+-- flags from bit 0
+abbrev pub flagsOf : List Bool → ℕ
+flagsOf bs = joined (replicate (length bs) 2) (map bitOf bs)
 
 -- "23 phase 0 read, 1 write"
 abbrev pub phaseNumber : SwapPhase → ℕ
 phaseNumber ReadC64 = 0
 phaseNumber WriteC64 = 1
 
-abbrev pub bytes2 : ℕ → List ℕ
-bytes2 x = lowByte x ∷ highByte x ∷ []
-
-abbrev pub bytes3 : ℕ → List ℕ
-bytes3 x = lowByte x ∷ highByte x ∷ bankByte x ∷ []
-
--- "18 from bit 0: enabled, interrupt, attached, armed, BA was high, recall repeat, terminal write, late fall"
-abbrev pub flags18 : Reu → ℕ
-flags18 r =
-    bitOf (r .enabled) + 2 * bitOf (r .«irq_pending») + 4 * bitOf (r .attached) + 8 * bitOf (r .«waiting_ff00»)
-    + 16 * bitOf (r .«ba_was_high») + 32 * bitOf (r .«recall_repeat») + 64 * bitOf (r .«terminal_swap_write»)
-    + 128 * bitOf (r .«late_ba_fall»)
-
--- "19 bit 0 refresh, bit 1 release, others 0"
-abbrev pub flags19 : Reu → ℕ
-flags19 r = bitOf (r .«swap_refresh») + 2 * bitOf (r .«swap_release_pending»)
-
--- "33 from bit 0: fix C64, fix expansion, Autoload, first byte, odd parity, tail, others 0"
-abbrev pub flags33 : DmaState → ℕ
-flags33 d =
-    bitOf (d .«fix_c64») + 2 * bitOf (d .«fix_reu») + 4 * bitOf (d .autoload) + 8 * bitOf (d .«first_byte»)
-    + 16 * bitOf (d .«read_clock_odd») + 32 * bitOf (d .«verify_tail»)
-
 -- "21 transfer present 0/1"
 abbrev pub present : Dma → ℕ
 present Idle = 0
 present (Running d) = 1
 
--- "11-12, 13-15, 16-17 the shadows C64, expansion, length; 18 ..; 19 ..; 20 delay 0-2; 21 .."
-abbrev pub middleBytes : Reu → List ℕ
-middleBytes r =
-    bytes2 (r .«shadow_c64_addr») ++ (bytes3 (r .«shadow_reu_addr») ++ (bytes2 (r .«shadow_len») ++
-    (flags18 r ∷ flags19 r ∷ r .«swap_read_delay» ∷ present (r .dma) ∷ [])))
+-- "18 from bit 0: enabled, interrupt, attached, armed, BA was high, recall repeat, terminal write, late fall"
+abbrev pub flagBits : Reu → List Bool
+flagBits r =
+    r .enabled ∷ r .«irq_pending» ∷ r .attached ∷ r .«waiting_ff00» ∷ r .«ba_was_high» ∷ r .«recall_repeat» ∷ r .«terminal_swap_write»
+    ∷ r .«late_ba_fall» ∷ []
 
--- "22 type 0-3; 23 phase; 24-25 C64 address; 26-28 expansion address; 29-31 remaining; 32 latch; 33 ..". "Without a transfer, 22-33 are 0"
-abbrev pub transferBytes : Dma → List ℕ
-transferBytes Idle = 0 ∷ 0 ∷ 0 ∷ 0 ∷ 0 ∷ 0 ∷ 0 ∷ 0 ∷ 0 ∷ 0 ∷ 0 ∷ 0 ∷ []
-transferBytes (Running d) =
-    typeNumber (d .«transfer_type») ∷ phaseNumber (d .«swap_phase») ∷
-    (bytes2 (d .«c64_addr» .0) ++ (bytes3 (d .«reu_addr» .0) ++ (bytes3 (d .remaining) ++ (d .latch ∷ flags33 d ∷ []))))
+-- "19 bit 0 refresh, bit 1 release, others 0"
+abbrev pub moreBits : Reu → List Bool
+moreBits r = r .«swap_refresh» ∷ r .«swap_release_pending» ∷ []
 
--- "0-10 registers"
+-- "33 from bit 0: fix C64, fix expansion, Autoload, first byte, odd parity, tail, others 0"
+abbrev pub optionBits : DmaState → List Bool
+optionBits d =
+    d .«fix_c64» ∷ d .«fix_reu» ∷ d .autoload ∷ d .«first_byte» ∷ d .«read_clock_odd» ∷ d .«verify_tail» ∷ []
+
+-- the fields of a transfer, from the type to the options
+abbrev pub transferFields : ℕ
+transferFields = options - transfer
+
+-- "Without a transfer, 22-33 are 0"
+abbrev pub transferNumbers : Dma → List ℕ
+transferNumbers Idle = replicate transferFields 0
+transferNumbers (Running d) =
+    typeNumber (d .«transfer_type») ∷ phaseNumber (d .«swap_phase») ∷ d .«c64_addr» .0 ∷ d .«reu_addr» .0 ∷ d .remaining ∷ d .latch
+    ∷ flagsOf (optionBits d) ∷ []
+
+-- the numbers behind the registers, of a controller that runs m
+abbrev pub otherWith : Reu → Dma → List ℕ
+otherWith r m =
+    r .«shadow_c64_addr» ∷ r .«shadow_reu_addr» ∷ r .«shadow_len» ∷ flagsOf (flagBits r) ∷ flagsOf (moreBits r) ∷ r .«swap_read_delay»
+    ∷ present m ∷ transferNumbers m
+
+abbrev pub otherNumbers : Reu → List ℕ
+otherNumbers r = otherWith r (r .dma)
+
+abbrev pub numbersOf : Reu → List ℕ
+numbersOf r = r .regs ++ otherNumbers r
+
 unfoldable pub packImage : Reu → List ℕ
-packImage r = r .regs ++ (middleBytes r ++ transferBytes (r .dma))
+packImage r = laid fields (numbersOf r)
 
--- ---- opening: byte i of an image
+-- ---- opening: the controller of the numbers
 
+-- element i of a list, and 0 past its end
 abbrev pub at : List ℕ → ℕ → ℕ
 at s i = getD s i 0
 
 abbrev pub phaseOf : ℕ → SwapPhase
 phaseOf n = cond (eqb n 0) ReadC64 WriteC64
 
-abbrev pub transferAt : List ℕ → DmaState
-transferAt s = record {
-  «transfer_type» = typeOf (at s 22);
-  «swap_phase» = phaseOf (at s 23);
-  «c64_addr» = record { 0 = word (at s 24) (at s 25) };
-  «reu_addr» = record { 0 = long (at s 26) (at s 27) (at s 28) };
-  remaining = long (at s 29) (at s 30) (at s 31);
-  «fix_c64» = bit (at s 33) 0;
-  «fix_reu» = bit (at s 33) 1;
-  autoload = bit (at s 33) 2;
-  latch = at s 32;
-  «first_byte» = bit (at s 33) 3;
-  «read_clock_odd» = bit (at s 33) 4;
-  «verify_tail» = bit (at s 33) 5;
+abbrev pub transferOf : List ℕ → DmaState
+transferOf ns = record {
+  «transfer_type» = typeOf (at ns kind);
+  «swap_phase» = phaseOf (at ns phase);
+  «c64_addr» = record { 0 = at ns transferC64 };
+  «reu_addr» = record { 0 = at ns transferExp };
+  remaining = at ns remaining;
+  «fix_c64» = bit (at ns options) 0;
+  «fix_reu» = bit (at ns options) 1;
+  autoload = bit (at ns options) 2;
+  latch = at ns latch;
+  «first_byte» = bit (at ns options) 3;
+  «read_clock_odd» = bit (at ns options) 4;
+  «verify_tail» = bit (at ns options) 5;
 }
 
-abbrev pub dmaAt : List ℕ → Dma
-dmaAt s = cond (eqb (at s 21) 0) Idle (Running (transferAt s))
+abbrev pub dmaIn : List ℕ → Dma
+dmaIn ns = cond (eqb (at ns transfer) 0) Idle (Running (transferOf ns))
+
+abbrev pub controllerOf : List ℕ → Reu
+controllerOf ns = record {
+  regs = take registerCount ns;
+  «shadow_c64_addr» = at ns shadowC64;
+  «shadow_reu_addr» = at ns shadowExp;
+  «shadow_len» = at ns shadowLength;
+  enabled = bit (at ns flags) 0;
+  «irq_pending» = bit (at ns flags) 1;
+  attached = bit (at ns flags) 2;
+  «waiting_ff00» = bit (at ns flags) 3;
+  «ba_was_high» = bit (at ns flags) 4;
+  «recall_repeat» = bit (at ns flags) 5;
+  «terminal_swap_write» = bit (at ns flags) 6;
+  «late_ba_fall» = bit (at ns flags) 7;
+  «swap_refresh» = bit (at ns moreFlags) 0;
+  «swap_release_pending» = bit (at ns moreFlags) 1;
+  «swap_read_delay» = at ns delay;
+  dma = dmaIn ns;
+}
 
 unfoldable pub reuAt : List ℕ → Reu
-reuAt s = record {
-  regs = take registerCount s;
-  «shadow_c64_addr» = word (at s 11) (at s 12);
-  «shadow_reu_addr» = long (at s 13) (at s 14) (at s 15);
-  «shadow_len» = word (at s 16) (at s 17);
-  enabled = bit (at s 18) 0;
-  «irq_pending» = bit (at s 18) 1;
-  attached = bit (at s 18) 2;
-  «waiting_ff00» = bit (at s 18) 3;
-  «ba_was_high» = bit (at s 18) 4;
-  «recall_repeat» = bit (at s 18) 5;
-  «terminal_swap_write» = bit (at s 18) 6;
-  «late_ba_fall» = bit (at s 18) 7;
-  «swap_refresh» = bit (at s 19) 0;
-  «swap_release_pending» = bit (at s 19) 1;
-  «swap_read_delay» = at s 20;
-  dma = dmaAt s;
-}
-
--- n bytes of s, from i on
-abbrev pub gets : ℕ → ℕ → List ℕ → List ℕ
-gets i zero s = []
-gets i (suc n) s = getD s i 0 ∷ gets (suc i) n s
+reuAt s = controllerOf (lifted fields s)

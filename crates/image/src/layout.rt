@@ -1,58 +1,32 @@
-// Where each byte of an image stands, low bytes first, and the refusals of an image.
+// Where each field of an image starts: the one before plus its width. The low byte of a number comes first.
+pub const REGISTERS: usize = 0;
 
-pub const IMAGE_BYTES: usize = 34;
+pub const SHADOW_C64: usize = REGISTERS + 11;
 
-// The registers are bytes 0 to 10; the bytes of a transfer are the last twelve.
-pub(crate) const TRANSFER_BYTES: usize = 12;
+pub const SHADOW_EXPANSION: usize = SHADOW_C64 + 2;
 
-pub(crate) const SHADOW_C64_LOW: usize = 11;
+pub const SHADOW_LENGTH: usize = SHADOW_EXPANSION + 3;
 
-pub(crate) const SHADOW_C64_HIGH: usize = 12;
+pub const FLAGS: usize = SHADOW_LENGTH + 2;
 
-pub(crate) const SHADOW_REU_LOW: usize = 13;
+pub const MORE_FLAGS: usize = FLAGS + 1;
 
-pub(crate) const SHADOW_REU_HIGH: usize = 14;
+pub const DELAY: usize = MORE_FLAGS + 1;
 
-pub(crate) const SHADOW_REU_BANK: usize = 15;
+pub const TRANSFER: usize = DELAY + 1;
 
-pub(crate) const SHADOW_LEN_LOW: usize = 16;
+pub const TYPE: usize = TRANSFER + 1;
 
-pub(crate) const SHADOW_LEN_HIGH: usize = 17;
+pub const PHASE: usize = TYPE + 1;
 
-pub(crate) const FLAGS: usize = 18;
+pub const TRANSFER_C64: usize = PHASE + 1;
 
-pub(crate) const SWAP_FLAGS: usize = 19;
+pub const TRANSFER_EXPANSION: usize = TRANSFER_C64 + 2;
 
-pub(crate) const READ_DELAY: usize = 20;
+pub const REMAINING: usize = TRANSFER_EXPANSION + 3;
 
-pub(crate) const PRESENT: usize = 21;
+pub const LATCH: usize = REMAINING + 3;
 
-pub(crate) const TYPE: usize = 22;
+pub const OPTIONS: usize = LATCH + 1;
 
-pub(crate) const PHASE: usize = 23;
-
-pub(crate) const C64_LOW: usize = 24;
-
-pub(crate) const C64_HIGH: usize = 25;
-
-pub(crate) const REU_LOW: usize = 26;
-
-pub(crate) const REU_HIGH: usize = 27;
-
-pub(crate) const REU_BANK: usize = 28;
-
-pub(crate) const REMAINING_LOW: usize = 29;
-
-pub(crate) const REMAINING_HIGH: usize = 30;
-
-pub(crate) const REMAINING_TOP: usize = 31;
-
-pub(crate) const LATCH: usize = 32;
-
-pub(crate) const TRANSFER_FLAGS: usize = 33;
-
-pub(crate) const ACCEPTED: u8 = 0;
-
-pub(crate) const REFUSED_LENGTH: u8 = 1;
-
-pub(crate) const REFUSED_FIELD: u8 = 2;
+pub const IMAGE_BYTES: usize = OPTIONS + 1;

@@ -5,6 +5,7 @@ use console::files::copy;
 use console::files::part_name;
 use console::memory::empty_bus;
 use console::memory::empty_storage;
+use image::layout::IMAGE_BYTES;
 use pane::line::Line;
 use pane::line::fill;
 use pane::line::first;
@@ -99,7 +100,7 @@ pub(crate) fn open_machine(
     bus: &mut [u8],
     storage: &mut [u8],
 ) -> Line {
-    let mut saved = [0u8; 34];
+    let mut saved = [0u8; IMAGE_BYTES];
     let mut saved_bus = empty_bus();
     let mut saved_storage = empty_storage();
     let found = read_machine(name, &mut saved, &mut saved_bus, &mut saved_storage);
@@ -113,7 +114,7 @@ pub(crate) fn open_machine(
 }
 
 pub(crate) fn compare(name: Line, image: &[u8], colour: bool) {
-    let mut saved = [0u8; 34];
+    let mut saved = [0u8; IMAGE_BYTES];
     let found = read_image(name, &mut saved);
     if !found.is_empty() {
         say(found);

@@ -9,6 +9,7 @@ use console::memory::empty_bus;
 use console::memory::empty_storage;
 use console::prompt::is_colour;
 use console::session::Session;
+use image::layout::IMAGE_BYTES;
 use output::say;
 use output::tell;
 use pane::line::Line;
@@ -71,7 +72,7 @@ fn begin(image: &mut [u8], bus: &mut [u8], storage: &mut [u8]) {
 }
 
 fn main() {
-    let mut image = [0u8; 34];
+    let mut image = [0u8; IMAGE_BYTES];
     let mut bus = empty_bus();
     let mut storage = empty_storage();
     begin(&mut image, &mut bus, &mut storage);

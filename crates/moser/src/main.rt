@@ -1,5 +1,6 @@
 // The tables of Moser's Technical Reference as document 01 carries them, through the exported calls. Writes how many
 // lines agree.
+use image::layout::IMAGE_BYTES;
 use script::*;
 
 // A line's last two digits are the number of its table; what the columns before them mean stands above each table.
@@ -393,7 +394,7 @@ const SCRIPTS: [u64; 196] = [
 ];
 
 fn main() {
-    let mut image = [0u8; 34];
+    let mut image = [0u8; IMAGE_BYTES];
     let mut bus = empty_bus();
     let mut storage = empty_storage();
     let n = script::play_table(&SCRIPTS, &TABLES, &mut image, &mut bus, &mut storage);

@@ -11,7 +11,7 @@ use Rattle.controller.specs.Bytes.{bitOf}
 use Rattle.controller.specs.Calls.{dmaActiveCall}
 use Rattle.controller.specs.Dma.{active}
 use Rattle.controller.specs.Refusals.{checked, refusalOf, wellFormed}
-use Rattle.image.specs.Layout.{reuAt}
+use Rattle.image.specs.Layout.{imageSize, reuAt}
 use Rattle.image.specs.Open.{bytesOk, imageOk, openImage}
 use Rattle.image.proofs.Opening.{opened-is, opened-ok}
 use Rattle.reu.specs.Exports.{code, look, refusal, refusalUnit, reuDmaActive}
@@ -47,10 +47,10 @@ module _ (i : List ℕ) (n : ℕ) where
     accepted-row = rw (answer, lt-ltb _ refusalUnit (small (active (reuAt i .dma))))
 
 -- a copy of a refused image, kept to be shown as what was there before, is refused too
-kept : (b : Bool) (i : List ℕ) → (openImage i .refusal ≡ 0 → ⊥) → openImage (cond b i (replicate 34 255)) .refusal ≡ 0 → ⊥
-unfolding openImage imageOk bytesOk
+kept : (b : Bool) (i : List ℕ) → (openImage i .refusal ≡ 0 → ⊥) → openImage (cond b i (replicate imageSize 255)) .refusal ≡ 0 → ⊥
+unfolding openImage checked imageOk bytesOk
 kept true i bad = bad
 kept false i bad = λ z. omega arith
 
 pub refused-copy : (i : List ℕ) → (openImage i .refusal ≡ 0 → ⊥) → openImage (copyOf i) .refusal ≡ 0 → ⊥
-refused-copy i = kept (eqb (length i) 34) i
+refused-copy i = kept (eqb (length i) imageSize) i

@@ -1,11 +1,12 @@
 -- The register pane, row by row: which bytes of an image each row shows, and how they are spelled.
--- The places of the bytes are those of document 01's image record.
 use Prim.Native.Nat.{ℕ, _+_, _%_}
 use mathlib.Core.Bool.{cond}
 use mathlib.Core.List.{List, [], _∷_}
 use lib.Dec.{eqb, ltb}
 use lib.ListN.{getD, length, replicate}
 use Rattle.controller.specs.Bytes.{long, word}
+use Rattle.controller.specs.Constants.{status, command, c64Low, expLow, lengthLow, interruptMask, addressControl}
+use Rattle.image.specs.Layout.{imageSize, placeOf, shadowC64, shadowExp, shadowLength, flags, moreFlags, delay, transfer, kind, phase, transferC64, transferExp, remaining, latch, options}
 use Rattle.reu.specs.Exports.{reuDebugRegister, reuDmaActive, reuRead}
 use Rattle.pane.specs.Answers.{accepted, refusedBy}
 use Rattle.pane.specs.Shown.{_⊕_, ascii, bitsOf, hexOf}
@@ -27,9 +28,9 @@ longAt i p = long (byteAt i p) (byteAt i (p + 1)) (byteAt i (p + 2))
 abbrev pub held : List ℕ → ℕ → ℕ
 held i n = reuDebugRegister i n % 256
 
--- an image of 34 bytes; of any other length, which is refused, 34 bytes that are refused too
+-- an image of its size; of any other length, which is refused, as many bytes that are refused too
 abbrev pub copyOf : List ℕ → List ℕ
-copyOf i = cond (eqb (length i) 34) i (replicate 34 255)
+copyOf i = cond (eqb (length i) imageSize) i (replicate imageSize 255)
 
 -- what a read of the register would give, of a copy
 abbrev pub reads : List ℕ → ℕ → ℕ
@@ -50,13 +51,13 @@ typeName k = getD (ascii "store" ∷ ascii "recall" ∷ ascii "swap" ∷ []) k (
 -- what is spelled out behind a register's value: its bits, or, at the low byte of a pair, the counter and its shadow
 unfoldable pub spelled : List ℕ → ℕ → List ℕ → List ℕ
 spelled i n t =
-    cond (eqb n 0) (t ⊕ bitsOf " irq=7 end=6 err=5 ver=4" (byteAt i 0))
-    (cond (eqb n 1) (t ⊕ bitsOf " exec=7 load=5 now=4 " (byteAt i 1) ⊕ typeName (byteAt i 1 % 4))
-    (cond (eqb n 2) (t ⊕ ascii " c64 " ⊕ hexOf 4 (wordAt i 2) ⊕ ascii " shadow " ⊕ hexOf 4 (wordAt i 11))
-    (cond (eqb n 4) (t ⊕ ascii " exp " ⊕ hexOf 6 (longAt i 4) ⊕ ascii " shadow " ⊕ hexOf 6 (longAt i 13))
-    (cond (eqb n 7) (t ⊕ ascii " len " ⊕ hexOf 4 (wordAt i 7) ⊕ ascii " shadow " ⊕ hexOf 4 (wordAt i 16))
-    (cond (eqb n 9) (t ⊕ bitsOf " all=7 end=6 err=5" (byteAt i 9))
-    (cond (eqb n 10) (t ⊕ bitsOf " fixc64=7 fixexp=6" (byteAt i 10)) t))))))
+    cond (eqb n 0) (t ⊕ bitsOf " irq=7 end=6 err=5 ver=4" (byteAt i status))
+    (cond (eqb n 1) (t ⊕ bitsOf " exec=7 load=5 now=4 " (byteAt i command) ⊕ typeName (byteAt i command % 4))
+    (cond (eqb n 2) (t ⊕ ascii " c64 " ⊕ hexOf 4 (wordAt i c64Low) ⊕ ascii " shadow " ⊕ hexOf 4 (wordAt i (placeOf shadowC64)))
+    (cond (eqb n 4) (t ⊕ ascii " exp " ⊕ hexOf 6 (longAt i expLow) ⊕ ascii " shadow " ⊕ hexOf 6 (longAt i (placeOf shadowExp)))
+    (cond (eqb n 7) (t ⊕ ascii " len " ⊕ hexOf 4 (wordAt i lengthLow) ⊕ ascii " shadow " ⊕ hexOf 4 (wordAt i (placeOf shadowLength)))
+    (cond (eqb n 9) (t ⊕ bitsOf " all=7 end=6 err=5" (byteAt i interruptMask))
+    (cond (eqb n 10) (t ⊕ bitsOf " fixc64=7 fixexp=6" (byteAt i addressControl)) t))))))
 
 -- a register by its address and name, what it holds, what that means, and what a read would give where that differs
 unfoldable pub registerRow : List ℕ → ℕ → List ℕ
@@ -64,37 +65,37 @@ registerRow i n =
     let t : List ℕ = spelled i n ([] ⊕ ascii "DF0" ⊕ hexOf 1 n ⊕ registerName n ⊕ hexOf 2 (held i n)) in
     cond (eqb (reads i n) (held i n)) t (t ⊕ ascii " reads " ⊕ hexOf 2 (reads i n))
 
--- ---- flags: bytes 18 and 19 of the image, and the delay in byte 20
+-- ---- flags, and the delay
 
 unfoldable pub flagsRow : List ℕ → ℕ → List ℕ
 flagsRow i n =
-    cond (eqb n 11) ([] ⊕ bitsOf "interrupt    level=1" (byteAt i 18))
-    (cond (eqb n 12) ([] ⊕ bitsOf "machine      enabled=0 attached=2 armed=3" (byteAt i 18))
-    (cond (eqb n 13) ([] ⊕ bitsOf "BA history   washigh=4 latefall=7" (byteAt i 18))
-    (cond (eqb n 14) ([] ⊕ bitsOf "BA rules     repeat=5 terminal=6" (byteAt i 18))
-    (cond (eqb n 15) ([] ⊕ bitsOf "swap rules   refresh=0 release=1" (byteAt i 19))
-    ([] ⊕ ascii "delay        " ⊕ hexOf 1 (byteAt i 20))))))
+    cond (eqb n 11) ([] ⊕ bitsOf "interrupt    level=1" (byteAt i (placeOf flags)))
+    (cond (eqb n 12) ([] ⊕ bitsOf "machine      enabled=0 attached=2 armed=3" (byteAt i (placeOf flags)))
+    (cond (eqb n 13) ([] ⊕ bitsOf "BA history   washigh=4 latefall=7" (byteAt i (placeOf flags)))
+    (cond (eqb n 14) ([] ⊕ bitsOf "BA rules     repeat=5 terminal=6" (byteAt i (placeOf flags)))
+    (cond (eqb n 15) ([] ⊕ bitsOf "swap rules   refresh=0 release=1" (byteAt i (placeOf moreFlags)))
+    ([] ⊕ ascii "delay        " ⊕ hexOf 1 (byteAt i (placeOf delay)))))))
 
--- ---- the transfer: bytes 21 to 33
+-- ---- the transfer
 
 -- its type and phase
 unfoldable pub transferRow : List ℕ → List ℕ
 transferRow i =
     let t : List ℕ = [] ⊕ ascii "transfer     " in
-    cond (eqb (byteAt i 21) 0) (t ⊕ ascii "none")
-    (cond (eqb (byteAt i 23) 0) (t ⊕ typeName (byteAt i 22) ⊕ ascii ", read phase")
-    (t ⊕ typeName (byteAt i 22) ⊕ ascii ", write phase"))
+    cond (eqb (byteAt i (placeOf transfer)) 0) (t ⊕ ascii "none")
+    (cond (eqb (byteAt i (placeOf phase)) 0) (t ⊕ typeName (byteAt i (placeOf kind)) ⊕ ascii ", read phase")
+    (t ⊕ typeName (byteAt i (placeOf kind)) ⊕ ascii ", write phase"))
 
 -- its addresses and what remains; its latch and state; its options. No bytes where there is no transfer
 unfoldable pub runningRow : List ℕ → ℕ → List ℕ
 runningRow i n =
-    cond (eqb (byteAt i 21) 0) []
+    cond (eqb (byteAt i (placeOf transfer)) 0) []
     (cond (eqb n 18)
-    ([] ⊕ ascii "  at         c64 " ⊕ hexOf 4 (wordAt i 24) ⊕ ascii " exp " ⊕ hexOf 6 (longAt i 26) ⊕ ascii " left "
-    ⊕ hexOf 5 (longAt i 29))
+    ([] ⊕ ascii "  at         c64 " ⊕ hexOf 4 (wordAt i (placeOf transferC64)) ⊕ ascii " exp " ⊕ hexOf 6 (longAt i (placeOf transferExp)) ⊕ ascii " left "
+    ⊕ hexOf 5 (longAt i (placeOf remaining)))
     (cond (eqb n 19)
-    ([] ⊕ ascii "  latch      " ⊕ hexOf 2 (byteAt i 32) ⊕ bitsOf " first=3 odd=4 tail=5" (byteAt i 33))
-    (cond (eqb n 20) ([] ⊕ bitsOf "  options    fixc64=0 fixexp=1 load=2" (byteAt i 33)) [])))
+    ([] ⊕ ascii "  latch      " ⊕ hexOf 2 (byteAt i (placeOf latch)) ⊕ bitsOf " first=3 odd=4 tail=5" (byteAt i (placeOf options)))
+    (cond (eqb n 20) ([] ⊕ bitsOf "  options    fixc64=0 fixexp=1 load=2" (byteAt i (placeOf options))) [])))
 
 -- ---- all of them
 

@@ -3,5 +3,4 @@ pub mod answers;
 pub mod faults;
 pub mod line;
 pub mod number;
-pub mod places;
 pub mod rows;

@@ -3,11 +3,12 @@
 use crate::answers::is_accepted;
 use crate::answers::refusal;
 use crate::line::Line;
-use crate::places;
+use image::layout;
 ghost use mathlib.Core.Path.{_≡_};
 ghost use mathlib.Core.List.{[]};
 ghost use Prim.Native.Nat.{_%_, _<_, _≤_};
 ghost use lib.ListN.{length};
+ghost use Rattle.image.specs.Layout.{imageSize, placeOf, transferExp};
 ghost use Rattle.pane.specs.Rows.{byteAt, copyOf, flagsRow, heldRow, longAt, reads, refusedRow, registerName, registerRow, rowOf, runningRow, transferRow, typeName, wordAt};
 ghost use Rattle.pane.specs.Rows.{held as Rows·held, spelled as Rows·spelled};
 ghost use Rattle.pane.specs.Shown.{_⊕_, ascii, bitsOf, hexOf, textOf};
@@ -15,6 +16,20 @@ ghost use Rattle.pane.specs.Shown.{_⊕_, ascii, bitsOf, hexOf, textOf};
 pub const ROWS: usize = 22;
 // Where a row's label ends: what follows differs from machine to machine.
 pub const LABEL: usize = 13;
+// The registers that a row spells out, the low byte of a pair.
+const STATUS: usize = layout::REGISTERS;
+
+const COMMAND: usize = layout::REGISTERS + 1;
+
+const C64_ADDRESS: usize = layout::REGISTERS + 2;
+
+const EXPANSION_ADDRESS: usize = layout::REGISTERS + 4;
+
+const LENGTH: usize = layout::REGISTERS + 7;
+
+const INTERRUPT_MASK: usize = layout::REGISTERS + 9;
+
+const ADDRESS_CONTROL: usize = layout::REGISTERS + 10;
 
 pub fn byte(s: &[u8], i: usize) -> u8
     ensures { λ r. ⌜ r ≡ byteAt (now (s .entry)) i ⌝ }
@@ -41,22 +56,22 @@ fn long(s: &[u8], i: usize) -> u32
 
 // The expansion address of the running transfer.
 pub fn transfer_expansion(image: &[u8]) -> u32
-    ensures { λ r. ⌜ r ≡ longAt (now (image .entry)) 26 ⌝ }
+    ensures { λ r. ⌜ r ≡ longAt (now (image .entry)) (placeOf transferExp) ⌝ }
 {
-    long(image, places::TRANSFER_EXPANSION)
+    long(image, layout::TRANSFER_EXPANSION)
 }
 
-// A copy of what is no image of 34 bytes is refused, as that is.
-pub fn copied(image: &[u8]) -> [u8; 34]
+// A copy of what is no image by its length is refused, as that is.
+pub fn copied(image: &[u8]) -> [u8; layout::IMAGE_BYTES]
     ensures { λ r. ⌜ r ≡ copyOf (now (image .entry)) ⌝ }
-    ensures { λ r. ⌜ 34 ≡ length r ⌝ }
+    ensures { λ r. ⌜ imageSize ≡ length r ⌝ }
 {
-    let mut copy = [255u8; 34];
-    if image.len() != 34 {
+    let mut copy = [255u8; layout::IMAGE_BYTES];
+    if image.len() != layout::IMAGE_BYTES {
         return copy;
     }
     let mut i = 0;
-    while i < 34 {
+    while i < layout::IMAGE_BYTES {
         copy[i] = byte(image, i);
         i += 1;
     }
@@ -125,25 +140,25 @@ fn spelled(line: Line, image: &[u8], register: u8) -> Line
     ensures { λ r. ⌜ textOf r ≡ Rows·spelled (now (image .entry)) register (textOf line) ⌝ }
 {
     match register {
-        0 => line.bits(b" irq=7 end=6 err=5 ver=4", byte(image, places::STATUS)),
-        1 => command(line, byte(image, places::COMMAND)),
+        0 => line.bits(b" irq=7 end=6 err=5 ver=4", byte(image, STATUS)),
+        1 => command(line, byte(image, COMMAND)),
         2 => counter(
             line.text(b" c64 "),
-            word(image, places::C64_ADDRESS),
-            word(image, places::SHADOW_C64),
+            word(image, C64_ADDRESS),
+            word(image, layout::SHADOW_C64),
         ),
         4 => expansion(
             line.text(b" exp "),
-            long(image, places::EXPANSION_ADDRESS),
-            long(image, places::SHADOW_EXPANSION),
+            long(image, EXPANSION_ADDRESS),
+            long(image, layout::SHADOW_EXPANSION),
         ),
         7 => counter(
             line.text(b" len "),
-            word(image, places::LENGTH),
-            word(image, places::SHADOW_LENGTH),
+            word(image, LENGTH),
+            word(image, layout::SHADOW_LENGTH),
         ),
-        9 => line.bits(b" all=7 end=6 err=5", byte(image, places::INTERRUPT_MASK)),
-        10 => line.bits(b" fixc64=7 fixexp=6", byte(image, places::ADDRESS_CONTROL)),
+        9 => line.bits(b" all=7 end=6 err=5", byte(image, INTERRUPT_MASK)),
+        10 => line.bits(b" fixc64=7 fixexp=6", byte(image, ADDRESS_CONTROL)),
         _ => line,
     }
 }
@@ -167,7 +182,7 @@ fn flags_row(image: &[u8], row: usize) -> Line
     ensures { λ r. ⌜ textOf r ≡ flagsRow (now (image .entry)) row ⌝ }
 {
     let line = Line::new();
-    let flags = byte(image, places::FLAGS);
+    let flags = byte(image, layout::FLAGS);
     match row {
         11 => line.bits(b"interrupt    level=1", flags),
         12 => line.bits(b"machine      enabled=0 attached=2 armed=3", flags),
@@ -175,9 +190,9 @@ fn flags_row(image: &[u8], row: usize) -> Line
         14 => line.bits(b"BA rules     repeat=5 terminal=6", flags),
         15 => line.bits(
             b"swap rules   refresh=0 release=1",
-            byte(image, places::MORE_FLAGS),
+            byte(image, layout::MORE_FLAGS),
         ),
-        _ => line.text(b"delay        ").hex1(byte(image, places::DELAY)),
+        _ => line.text(b"delay        ").hex1(byte(image, layout::DELAY)),
     }
 }
 
@@ -187,11 +202,11 @@ fn transfer_row(image: &[u8]) -> Line
     ensures { λ r. ⌜ textOf r ≡ transferRow (now (image .entry)) ⌝ }
 {
     let line = Line::new().text(b"transfer     ");
-    if byte(image, places::TRANSFER) == 0 {
+    if byte(image, layout::TRANSFER) == 0 {
         return line.text(b"none");
     }
-    let typed = type_name(line, byte(image, places::TYPE));
-    if byte(image, places::PHASE) == 0 {
+    let typed = type_name(line, byte(image, layout::TYPE));
+    if byte(image, layout::PHASE) == 0 {
         return typed.text(b", read phase");
     }
     typed.text(b", write phase")
@@ -214,21 +229,21 @@ fn running_row(image: &[u8], row: usize) -> Line
     ensures { λ r. ⌜ textOf r ≡ runningRow (now (image .entry)) row ⌝ }
 {
     let line = Line::new();
-    if byte(image, places::TRANSFER) == 0 {
+    if byte(image, layout::TRANSFER) == 0 {
         return line;
     }
     match row {
         18 => place_row(
-            word(image, places::TRANSFER_C64),
-            long(image, places::TRANSFER_EXPANSION),
-            long(image, places::REMAINING),
+            word(image, layout::TRANSFER_C64),
+            long(image, layout::TRANSFER_EXPANSION),
+            long(image, layout::REMAINING),
         ),
         19 => line.text(b"  latch      ")
-            .hex2(byte(image, places::LATCH))
-            .bits(b" first=3 odd=4 tail=5", byte(image, places::OPTIONS)),
+            .hex2(byte(image, layout::LATCH))
+            .bits(b" first=3 odd=4 tail=5", byte(image, layout::OPTIONS)),
         20 => line.bits(
             b"  options    fixc64=0 fixexp=1 load=2",
-            byte(image, places::OPTIONS),
+            byte(image, layout::OPTIONS),
         ),
         _ => line,
     }

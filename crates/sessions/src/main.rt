@@ -1,4 +1,5 @@
 // The sixteen recorded sessions of document 01, through the exported calls. Writes how many agree.
+use image::layout::IMAGE_BYTES;
 use script::*;
 
 // A row is an operation plus a place times `AT` plus a value; crate script says what each operation does.
@@ -254,7 +255,7 @@ const SESSIONS: [u64; 219] = [
 const NUMBERS: [u64; 16] = [1, 2, 3, 4, 5, 6, 7, 8, 9, 10, 11, 12, 13, 14, 15, 16];
 
 fn main() {
-    let mut image = [0u8; 34];
+    let mut image = [0u8; IMAGE_BYTES];
     let mut bus = empty_bus();
     let mut storage = empty_storage();
     let n = script::play_table(&SESSIONS, &NUMBERS, &mut image, &mut bus, &mut storage);

@@ -3,15 +3,16 @@ use Prim.Native.Nat.{_-_}
 use native.Mathlib.Omega.{arith}
 use lib.ListN.{length, take}
 use borrow.Author.Needs.{needs}
+use Rattle.image.specs.Layout.{imageSize}
 use Rattle.pane.proofs.Copies.{more, other, whole}
 use Rattle.pane.proofs.rows.copied.Statement.{statement}
 use Rattle.pane.proofs.rows.copied.Tie as tie
 
 abbrev Inv-loop : tie.InvT-loop
-Inv-loop image copy₀ i₀ copy i = (34 ≡ length copy) × (take i copy ≡ take i image)
+Inv-loop image copy₀ i₀ copy i = (imageSize ≡ length copy) × (take i copy ≡ take i image)
 
 abbrev μ-loop : tie.MeasureT-loop
-μ-loop image copy₀ i₀ copy i = 34 - i
+μ-loop image copy₀ i₀ copy i = imageSize - i
 
 returns : tie.Need-returns Inv-loop μ-loop
 returns c = (other (c .before .before .args .image .now) (c .if1 .taken), refl)

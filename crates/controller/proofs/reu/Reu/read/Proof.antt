@@ -1,5 +1,4 @@
 use Rattle.controller.specs.Calls.{readCall}
-use Rattle.controller.proofs.Checked.{done, not-done}
 use borrow.Author.Needs.{needs}
 use Rattle.controller.proofs.reu.Reu.read.Statement.{statement}
 use Rattle.controller.proofs.reu.Reu.read.Tie as tie
@@ -7,21 +6,9 @@ use Rattle.controller.proofs.reu.Reu.read.Tie as tie
 returns : tie.Need-returns
 unfolding readCall
 returns c =
-    let its-if1 = c .before .if1 in
-    let its-refusal = c .before .before .refusal in
-    not-done _ _ (its-refusal .ensures) _ _ _ (its-if1 .taken) (c .refused .ensures)
-
-returns-2 : tie.Need-returns-2
-unfolding readCall
-returns-2 c =
     let its-read-register = c .before .before .before .read-register in
-    let its-if1 = c .before .before .before .before .if1 in
-    let its-refusal = c .before .before .before .before .before .refusal in
-    done _ _ (its-refusal .ensures) _ _ _ (its-if1 .left)
-    (rw (c .answered .ensures, its-read-register .ensures))
+    rw (c .tested .ensures, its-read-register .ensures)
 
 pub read-spec : {M : Type 1} → statement M
 read-spec =
-    tie.close
-    (tie.spec (λ c κs. search needs) (λ c κs. search needs) returns (λ c κs. search needs) (λ c. search needs)
-    (λ c κs. search needs) returns-2)
+    tie.close (tie.spec (λ c κs. search needs) (λ c. search needs) (λ c κs. search needs) returns)

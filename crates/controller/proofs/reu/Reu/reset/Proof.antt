@@ -1,5 +1,4 @@
 use Rattle.controller.specs.Calls.{resetCall}
-use Rattle.controller.proofs.Checked.{done, not-done}
 use borrow.Author.Needs.{needs}
 use Rattle.controller.proofs.reu.Reu.reset.Statement.{statement}
 use Rattle.controller.proofs.reu.Reu.reset.Tie as tie
@@ -7,20 +6,9 @@ use Rattle.controller.proofs.reu.Reu.reset.Tie as tie
 returns : tie.Need-returns
 unfolding resetCall
 returns c =
-    let its-if1 = c .before .if1 in
-    let its-refusal = c .before .before .refusal in
-    not-done _ _ (its-refusal .ensures) _ _ _ (its-if1 .taken) (c .refused .ensures)
-
-returns-2 : tie.Need-returns-2
-unfolding resetCall
-returns-2 c =
     let its-after-reset = c .before .after-reset in
-    let its-if1 = c .before .before .if1 in
-    let its-refusal = c .before .before .before .refusal in
-    done _ _ (its-refusal .ensures) _ _ _ (its-if1 .left) (rw (c .answered .ensures, its-after-reset .ensures))
+    rw (c .tested .ensures, its-after-reset .ensures)
 
 pub reset-spec : {M : Type 1} → statement M
 reset-spec =
-    tie.close
-    (tie.spec (λ c κs. search needs) (λ c κs. search needs) returns (λ c κs. search needs)
-    (λ c κs. search needs) returns-2)
+    tie.close (tie.spec (λ c κs. search needs) (λ c κs. search needs) returns)

@@ -1,0 +1,16 @@
+-- What the functions inside the crate may assume of what they are handed. No public contract cites this file.
+use Prim.Native.Nat.{ℕ, _<_}
+use mathlib.Core.List.{List}
+use lib.ListN.{take, drop}
+use Rattle.controller.specs.Constants.{expansionLimit}
+use Rattle.controller.specs.declared.dma.DmaState.{DmaState}
+use Rattle.image.specs.Layout.{fields, kind, transferFields}
+
+-- the transfer's fields
+abbrev pub transferPart : List (ℕ × ℕ)
+transferPart = take transferFields (drop kind fields)
+
+-- numbers that three bytes hold
+pub record Room (d : DmaState) : Type 0 where
+  pub exp : d .«reu_addr» .0 < expansionLimit
+  pub left : d .remaining < expansionLimit
