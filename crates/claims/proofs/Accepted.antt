@@ -11,9 +11,9 @@ use lib.Dec.{eqb, ltb}
 use borrow.Author.Tests.{eq-eqb, eqb-true, eqb-false, lt-ltb, ltb-true}
 use Rattle.controller.specs.declared.reu.Answer.{Answer}
 use Rattle.controller.specs.declared.reu.Reu.{Reu}
-use Rattle.controller.specs.Bytes.{bitOf}
+use Rattle.transfer.specs.Bytes.{bitOf}
 use Rattle.controller.specs.Enable.{newReu}
-use Rattle.controller.specs.Constants.{busSize, storageSize}
+use Rattle.transfer.specs.Constants.{busSize, storageSize}
 use Rattle.controller.specs.Refusals.{wellFormed, firstRefusal, refusalOf, checked}
 use Rattle.controller.specs.Calls.{answered, refused, call, callStorage, callBoth, resetCall, setEnabledCall, storagePresentCall, capacityBytesCall, triggerCall, readCall, writeCall, dmaActiveCall, busActionCall, cpuReadyCall, debugRegisterCall, c64AccessCall, tickCall, cycleCall}
 use Rattle.image.specs.declared.Opened.{Opened}

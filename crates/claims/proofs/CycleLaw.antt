@@ -11,19 +11,20 @@ use lib.Seq.{getD-set-other, getD-set-same}
 use native.Mathlib.Omega.{arith}
 use Rattle.controller.specs.declared.reu.Reu.{Reu}
 use Rattle.controller.specs.declared.reu.BusAnswer.{BusAnswer}
-use Rattle.controller.specs.declared.dma.DmaState.{DmaState}
-use Rattle.controller.specs.declared.dma.Dma.{Dma}
-use Rattle.controller.specs.declared.dma.Dma.the-variants.{Idle, Running}
-use Rattle.controller.specs.declared.dma.TransferType.the-variants.{Swap}
-use Rattle.controller.specs.declared.dma.SwapPhase.{SwapPhase}
-use Rattle.controller.specs.declared.dma.SwapPhase.the-variants.{ReadC64, WriteC64}
-use Rattle.controller.specs.declared.timing.ReuBusAction.{ReuBusAction}
-use Rattle.controller.specs.declared.timing.ReuBusAction.the-variants.{Cpu, Hold, Transfer}
-use Rattle.controller.specs.Bytes.{bit}
+use Rattle.transfer.specs.declared.dma.DmaState.{DmaState}
+use Rattle.transfer.specs.declared.dma.Dma.{Dma}
+use Rattle.transfer.specs.declared.dma.Dma.the-variants.{Idle, Running}
+use Rattle.transfer.specs.declared.dma.TransferType.the-variants.{Swap}
+use Rattle.transfer.specs.declared.dma.SwapPhase.{SwapPhase}
+use Rattle.transfer.specs.declared.dma.SwapPhase.the-variants.{ReadC64, WriteC64}
+use Rattle.transfer.specs.declared.timing.ReuBusAction.{ReuBusAction}
+use Rattle.transfer.specs.declared.timing.ReuBusAction.the-variants.{Cpu, Hold, Transfer}
+use Rattle.transfer.specs.Bytes.{bit}
 use Rattle.controller.specs.Reu.{reuOf, reg, withRegs, withRelease, withRepeat, withDelay, withHistory, withDma}
-use Rattle.controller.specs.Memory.{putStorage}
-use Rattle.controller.specs.Timing.{actionForCycle, c64Access}
-use Rattle.controller.specs.Dma.{moved}
+use Rattle.transfer.specs.Memory.{putStorage}
+use Rattle.controller.specs.Timing.{c64Access}
+use Rattle.transfer.specs.Timing.{actionForCycle}
+use Rattle.transfer.specs.Dma.{moved}
 use Rattle.controller.specs.FinishDma.{publishLiveCounters, finishDma, autoloaded, finishedStatus, finishedCommand, irqDue, updateIrq, counters}
 use Rattle.controller.specs.BusAction.{busAction, nextAction, rise, granted, decide, fall, plain, repeated}
 use Rattle.controller.specs.TickDma.{Ticked, ticked, tickDma, tickOf, tickRunning, tickByType, tickSwap, swapRead, swapWrite, advance}

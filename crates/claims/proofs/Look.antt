@@ -9,11 +9,11 @@ use lib.Seq.{getD-append-add, getD-take}
 use lib.Bits.{or-mod, or-zero-r, and-mask}
 use native.Mathlib.Omega.{arith}
 use borrow.Author.Tests.{eq-eqb, lt-ltb}
-use Rattle.controller.specs.declared.dma.Dma.{Dma}
-use Rattle.controller.specs.declared.dma.Dma.the-variants.{Idle, Running}
-use Rattle.controller.specs.Bytes.{bit}
+use Rattle.transfer.specs.declared.dma.Dma.{Dma}
+use Rattle.transfer.specs.declared.dma.Dma.the-variants.{Idle, Running}
+use Rattle.transfer.specs.Bytes.{bit}
 use Rattle.controller.specs.Reu.{reg}
-use Rattle.controller.proofs.Bits.{bit-zero, zero-bit}
+use Rattle.transfer.proofs.Bits.{bit-zero, zero-bit}
 use Rattle.controller.specs.Registers.{readAt, readRegister, debugRegister as core-debugRegister}
 use Rattle.image.specs.Fields.{laid}
 use Rattle.image.specs.Layout.{fields, imageSize, packImage, reuAt, present, otherNumbers}

@@ -6,10 +6,10 @@ use mathlib.Core.Logic.{_≢_}
 use mathlib.Core.List.{List, [], _∷_, _++_, append-nil}
 use lib.ListN.{length}
 use native.Mathlib.Omega.{arith}
-use Rattle.controller.specs.declared.dma.Dma.the-variants.{Idle}
-use Rattle.controller.specs.Bytes.{word, long}
+use Rattle.transfer.specs.declared.dma.Dma.the-variants.{Idle}
+use Rattle.transfer.specs.Bytes.{word, long}
 use Rattle.controller.specs.Reu.{reg}
-use Rattle.controller.specs.Dma.{lengthOf}
+use Rattle.transfer.specs.Dma.{lengthOf}
 use Rattle.claims.specs.Calls.{Held, Kind, NumbersFit, Call, leaves, accepts, next, after, Each, count}
 use Rattle.claims.specs.SwapTwice.{IsIdle, Start, Step, cycles, reads, writes, AnyStep, NoWrite, register, wrote, granted, High, Run, OfBlock, Shown, ShownAll, busPlace, storagePlace, blockLength, Exchanged, SwapsAtOnce, Rewrites, Ended, OnceEnded, Swap, Parts, listOf, atStart, atRestart, RunA, RunB, EndsAt, Outcome}
 use Rattle.image.proofs.Sound.{Sound}

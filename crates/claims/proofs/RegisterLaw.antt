@@ -12,17 +12,17 @@ use native.Mathlib.Omega.{arith}
 use native.Mathlib.Nat.{zero-add}
 use borrow.Author.Tests.{ne-eqb}
 use Rattle.controller.specs.declared.reu.Reu.{Reu}
-use Rattle.controller.specs.declared.dma.DmaState.{DmaState}
+use Rattle.transfer.specs.declared.dma.DmaState.{DmaState}
 use Rattle.controller.specs.declared.reu.ReadAnswer.{ReadAnswer}
-use Rattle.controller.specs.declared.dma.Dma.the-variants.{Running}
-use Rattle.controller.specs.declared.dma.TransferType.{TransferType}
-use Rattle.controller.specs.declared.dma.TransferType.the-variants.{Store, Recall, Swap, Verify}
-use Rattle.controller.specs.declared.dma.SwapPhase.the-variants.{ReadC64}
-use Rattle.controller.specs.Bytes.{bit, word, long, withLow, withHigh, withBank}
-use Rattle.controller.proofs.Bits.{zero-bit}
+use Rattle.transfer.specs.declared.dma.Dma.the-variants.{Running}
+use Rattle.transfer.specs.declared.dma.TransferType.{TransferType}
+use Rattle.transfer.specs.declared.dma.TransferType.the-variants.{Store, Recall, Swap, Verify}
+use Rattle.transfer.specs.declared.dma.SwapPhase.the-variants.{ReadC64}
+use Rattle.transfer.specs.Bytes.{bit, word, long, withLow, withHigh, withBank}
+use Rattle.transfer.proofs.Bits.{zero-bit}
 use Rattle.controller.specs.Reu.{reg, setReg, withIrq, withArmed, withDma, cleared}
 use Rattle.controller.specs.Registers.{shown, writeAt, writeC64, writeExp, writeLen, readRegister, writeRegister, writeCommand}
-use Rattle.controller.specs.Dma.{typeOf, lengthOf}
+use Rattle.transfer.specs.Dma.{typeOf, lengthOf}
 use Rattle.controller.specs.StartDma.{requested, startDma}
 use Rattle.claims.proofs.CycleLaw.{Reading, Kept, Quiet, swapState}
 

@@ -11,25 +11,27 @@ use native.Mathlib.Omega.{arith}
 use borrow.Author.Tests.{eq-eqb, ne-eqb}
 use Rattle.controller.specs.declared.reu.Reu.{Reu}
 use Rattle.controller.specs.declared.reu.TickAnswer.{TickAnswer}
-use Rattle.controller.specs.declared.memory.Put.the-variants.{Nothing}
-use Rattle.controller.specs.Memory.{putBus, putStorage}
-use Rattle.controller.specs.Reu.{withTail}
+use Rattle.transfer.specs.declared.memory.Put.the-variants.{Nothing}
+use Rattle.transfer.specs.Memory.{putBus, putStorage}
+use Rattle.transfer.specs.Dma.{withTail}
 use Rattle.controller.specs.Registers.{readRegister, writeRegister, writeCommand, debugRegister as core-debugRegister}
-use Rattle.controller.specs.Timing.{actionForCycle, c64Access as core-c64Access}
-use Rattle.controller.specs.Dma.{moved, typeOf, lengthOf}
+use Rattle.controller.specs.Timing.{c64Access as core-c64Access}
+use Rattle.transfer.specs.Timing.{actionForCycle}
+use Rattle.transfer.specs.Dma.{moved, typeOf, lengthOf}
 use Rattle.controller.specs.StartDma.{startDma, triggerFf00 as core-triggerFf00, requested}
 use Rattle.controller.specs.FinishDma.{publishLiveCounters, finishDma, autoloaded, updateIrq}
 use Rattle.controller.specs.Enable.{newReu, connected, setEnabled as core-setEnabled}
 use Rattle.controller.specs.BusAction.{busAction as core-busAction, nextAction, rise, decide, fall, fallOnRead, fallOnSwapWrite, plain, fallOnWrite, repeated}
 use Rattle.controller.specs.TickDma.{tickDma as core-tickDma, tickOf, tickRunning, tickByType, tickStore, tickRecall, tickSwap, tickVerify, tickTail, swapRead, swapWrite, tickRefresh, advance, withError}
 use Rattle.controller.specs.Cycle.{runReuCycle, cycleBy}
-use Rattle.controller.specs.Calls.{actionNumber, readCall}
+use Rattle.controller.specs.Calls.{readCall}
+use Rattle.transfer.specs.Timing.{actionNumber}
 use Rattle.image.specs.declared.Opened.{Opened}
 use Rattle.image.specs.Layout.{packImage, reuAt}
 use Rattle.image.specs.Open.{openImage}
 use Rattle.image.proofs.Opening.{opened-is, opened-long}
 use Rattle.image.proofs.ByBytes.{flags-byte}
-use Rattle.controller.specs.Bytes.{bit}
+use Rattle.transfer.specs.Bytes.{bit}
 use Rattle.image.proofs.Packed.{open-pack}
 use Rattle.reu.specs.Exports.{flag}
 use Rattle.claims.specs.Calls.{Held, Memories, setEnabled, triggerFf00, busAction, debugRegister, Kind, read, write, cycle, other, NumbersFit, Done, does, grantOf}

@@ -8,19 +8,19 @@ use mathlib.Core.Logic.{inr}
 use mathlib.Core.List.{List, [], _∷_, _++_, map}
 use lib.Dec.{eqb}
 use native.Mathlib.Omega.{arith}
-use Rattle.controller.specs.Bytes.{bitOf}
-use Rattle.controller.specs.declared.timing.ReuBusAction.{ReuBusAction}
-use Rattle.controller.specs.declared.dma.Dma.the-variants.{Idle}
+use Rattle.transfer.specs.Bytes.{bitOf}
+use Rattle.transfer.specs.declared.timing.ReuBusAction.{ReuBusAction}
+use Rattle.transfer.specs.declared.dma.Dma.the-variants.{Idle}
 use Rattle.controller.specs.Reu.{reg}
 use Rattle.controller.specs.Registers.{readRegister, writeRegister}
 use Rattle.controller.specs.Enable.{newReu, connected}
 use Rattle.controller.specs.Cycle.{runReuCycle}
-use Rattle.controller.specs.Calls.{actionNumber}
+use Rattle.transfer.specs.Timing.{actionNumber}
 use Rattle.image.specs.declared.Opened.{Opened}
 use Rattle.image.specs.Layout.{present, packImage}
 use Rattle.image.proofs.Packed.{open-pack}
 use Rattle.reu.specs.Exports.{reuDebugRegister}
-use Rattle.controller.specs.Constants.{command}
+use Rattle.transfer.specs.Constants.{command}
 use Rattle.claims.specs.Constants.{transferByte}
 use Rattle.reu.specs.Exports.{refusalUnit}
 use Rattle.claims.specs.Calls.{Held, Memories, Kind, read, write, cycle, NumbersFit, grantOf, Call, Fits, leaves, accepts, next, after, Each, All, count}

@@ -5,19 +5,20 @@ use mathlib.Core.Path.{_≡_, _∙_}
 use mathlib.Core.List.{List}
 use lib.ListN.{length, length-set, length-replicate}
 use Rattle.controller.specs.declared.reu.Reu.{Reu}
-use Rattle.controller.specs.Bytes.{bitOf}
-use Rattle.controller.specs.Constants.{busSize, storageSize}
-use Rattle.controller.specs.Memory.{zeros}
+use Rattle.transfer.specs.Bytes.{bitOf}
+use Rattle.transfer.specs.Constants.{busSize, storageSize}
+use Rattle.transfer.specs.Memory.{zeros}
 use Rattle.controller.specs.Refusals.{refusalOf}
 use Rattle.controller.specs.Registers.{readRegister, writeRegister, debugRegister as core-debugRegister}
 use Rattle.controller.specs.Timing.{c64Access as core-c64Access}
-use Rattle.controller.specs.Dma.{active}
+use Rattle.transfer.specs.Dma.{active}
 use Rattle.controller.specs.StartDma.{triggerFf00 as core-triggerFf00}
 use Rattle.controller.specs.Enable.{newReu, resetReu, setEnabled as core-setEnabled}
 use Rattle.controller.specs.BusAction.{busAction as core-busAction, cpuReadyAfterDma}
 use Rattle.controller.specs.TickDma.{Ticked, tickDma as core-tickDma}
 use Rattle.controller.specs.Cycle.{runReuCycle}
-use Rattle.controller.specs.Calls.{actionNumber, accessNumber, capacity}
+use Rattle.controller.specs.Calls.{capacity}
+use Rattle.transfer.specs.Timing.{actionNumber, accessNumber}
 use Rattle.image.specs.Layout.{packImage}
 use Rattle.image.specs.Valid.{Bytes}
 use Rattle.reu.specs.Exports.{flag}

@@ -12,18 +12,18 @@ use native.Mathlib.Omega.{arith}
 use native.Mathlib.Decide.{ℕ-discrete}
 use borrow.Author.Tests.{ne-eqb}
 use Rattle.controller.specs.declared.reu.Reu.{Reu}
-use Rattle.controller.specs.declared.dma.Dma.the-variants.{Idle}
-use Rattle.controller.specs.declared.timing.ReuBusAction.{ReuBusAction}
-use Rattle.controller.specs.declared.timing.ReuBusAction.the-variants.{Cpu, Transfer}
-use Rattle.controller.specs.Bytes.{word, bitOf, long}
-use Rattle.controller.proofs.Bits.{bit-one}
+use Rattle.transfer.specs.declared.dma.Dma.the-variants.{Idle}
+use Rattle.transfer.specs.declared.timing.ReuBusAction.{ReuBusAction}
+use Rattle.transfer.specs.declared.timing.ReuBusAction.the-variants.{Cpu, Transfer}
+use Rattle.transfer.specs.Bytes.{word, bitOf, long}
+use Rattle.transfer.proofs.Bits.{bit-one}
 use Rattle.controller.specs.Reu.{reg, withDma}
 use Rattle.controller.specs.Registers.{readRegister, writeRegister}
-use Rattle.controller.specs.Dma.{lengthOf}
+use Rattle.transfer.specs.Dma.{lengthOf}
 use Rattle.controller.specs.BusAction.{busAction as core-busAction}
 use Rattle.controller.specs.TickDma.{Ticked}
 use Rattle.controller.specs.Cycle.{runReuCycle}
-use Rattle.controller.specs.Calls.{actionNumber}
+use Rattle.transfer.specs.Timing.{actionNumber}
 use Rattle.reu.specs.Exports.{flag}
 use Rattle.claims.specs.Calls.{Held, Kind, busAction, cycle, other, NumbersFit, grantOf, Call}
 use Rattle.claims.specs.SwapTwice.{Step, cycles, reads, writes, register, writesTo, High, OfBlock, SwapsAtOnce, swaps, Ended, OnceEnded}

@@ -6,7 +6,7 @@ use mathlib.Core.Path.{_≡_, refl, sym, ap, _∙_, subst, fun-ext}
 use mathlib.Core.List.{List, [], _∷_, _++_}
 use lib.Dec.{eqb}
 use native.Mathlib.Omega.{arith}
-use Rattle.controller.specs.Bytes.{bitOf}
+use Rattle.transfer.specs.Bytes.{bitOf}
 use Rattle.claims.specs.Calls.{Held, Kind, NumbersFit, does, grantOf, Call, Fits, leaves, accepts, next, after, Each, All, count, Threaded}
 use Rattle.claims.specs.SwapTwice.{Step, cycles, reads, writes, writesTo, wrote, granted}
 use Rattle.image.proofs.Sound.{Sound}

@@ -5,11 +5,11 @@ use mathlib.Core.Path.{_≡_}
 use mathlib.Core.List.{List, [], _∷_}
 use lib.ListN.{length}
 use lib.Dec.{ltb}
-use Rattle.controller.specs.declared.timing.ReuBusAction.the-variants.{Cpu}
-use Rattle.controller.specs.Calls.{actionNumber}
+use Rattle.transfer.specs.declared.timing.ReuBusAction.the-variants.{Cpu}
+use Rattle.transfer.specs.Timing.{actionNumber}
 use Rattle.image.specs.Valid.{Bytes}
 use Rattle.reu.specs.Exports.{reuNew, reuReset, reuSetEnabled, reuStoragePresent, reuCapacityBytes, reuTriggerFf00, reuRead, reuWrite, reuDmaActive, reuBusAction, reuCpuReady, reuDebugRegister, reuC64Access, reuTickDma, reuCycle}
-use Rattle.controller.specs.Constants.{busSize, storageSize}
+use Rattle.transfer.specs.Constants.{busSize, storageSize}
 use Rattle.reu.specs.Exports.{refusalUnit}
 
 -- ---- one call

@@ -6,13 +6,13 @@ use mathlib.Core.Logic.{_≢_}
 use mathlib.Core.Path.{_≡_}
 use mathlib.Core.List.{List, [], _∷_, _++_}
 use lib.ListN.{getD, set}
-use Rattle.controller.specs.declared.timing.ReuBusAction.the-variants.{Hold, Transfer}
+use Rattle.transfer.specs.declared.timing.ReuBusAction.the-variants.{Hold, Transfer}
 use Rattle.controller.specs.Enable.{newReu}
-use Rattle.controller.specs.Calls.{actionNumber}
+use Rattle.transfer.specs.Timing.{actionNumber}
 use Rattle.image.specs.Layout.{packImage}
-use Rattle.controller.specs.Bytes.{bit}
+use Rattle.transfer.specs.Bytes.{bit}
 use Rattle.reu.specs.Exports.{reuDebugRegister}
-use Rattle.controller.specs.Constants.{status, command, c64Low, c64High, expLow, expHigh, expBank, lengthLow, lengthHigh, interruptMask}
+use Rattle.transfer.specs.Constants.{status, command, c64Low, c64High, expLow, expHigh, expBank, lengthLow, lengthHigh, interruptMask}
 use Rattle.claims.specs.Constants.{flagsByte}
 use Rattle.claims.specs.Calls.{Held, Memories, setEnabled, triggerFf00, Kind, read, write, cycle, other, does, grantOf}
 

@@ -7,15 +7,15 @@ use mathlib.Core.Path.{_≡_}
 use mathlib.Core.List.{List, [], _∷_, _++_, map}
 use lib.ListN.{length, getD}
 use lib.Dec.{eqb}
-use Rattle.controller.specs.declared.timing.ReuBusAction.the-variants.{Transfer}
+use Rattle.transfer.specs.declared.timing.ReuBusAction.the-variants.{Transfer}
 use Rattle.controller.specs.Enable.{newReu, connected}
-use Rattle.controller.specs.Calls.{actionNumber}
+use Rattle.transfer.specs.Timing.{actionNumber}
 use Rattle.image.specs.Layout.{packImage}
-use Rattle.controller.specs.Bytes.{bit, word, long}
+use Rattle.transfer.specs.Bytes.{bit, word, long}
 use Rattle.image.specs.Open.{openImage}
 use Rattle.image.specs.Valid.{Bytes}
 use Rattle.reu.specs.Exports.{reuRead, reuDebugRegister}
-use Rattle.controller.specs.Constants.{busSize, storageSize, fullLength, status, command, c64Low, c64High, expLow, expHigh, expBank, lengthLow, lengthHigh, addressControl}
+use Rattle.transfer.specs.Constants.{busSize, storageSize, fullLength, status, command, c64Low, c64High, expLow, expHigh, expBank, lengthLow, lengthHigh, addressControl}
 use Rattle.claims.specs.Constants.{registerWindow, flagsByte, transferByte}
 use Rattle.claims.specs.Calls.{Held, Memories, Kind, read, write, cycle, other, grantOf, Call, leaves, accepts, next, after, Each, All, count, Threaded}
 

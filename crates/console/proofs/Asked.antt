@@ -8,14 +8,14 @@ use Prim.Native.Nat.{ℕ}
 use lib.Dec.{eqb}
 use lib.ListN.{length, length-set}
 use lib.Seq.{set-set}
-use Rattle.controller.specs.declared.memory.Put.{Put}
-use Rattle.controller.specs.declared.memory.Put.the-variants.{Nothing, Bus, Storage}
+use Rattle.transfer.specs.declared.memory.Put.{Put}
+use Rattle.transfer.specs.declared.memory.Put.the-variants.{Nothing, Bus, Storage}
 use Rattle.controller.specs.declared.reu.Reu.{Reu}
 use Rattle.controller.specs.declared.reu.Answer.{Answer}
-use Rattle.controller.specs.Memory.{putStorage}
+use Rattle.transfer.specs.Memory.{putStorage}
 use Rattle.controller.specs.BusAction.{Granted, nextAction, busAction}
 use Rattle.controller.specs.Calls.{busActionCall, cycleCall, grantedAnswer, refused, tickedAnswer}
-use Rattle.controller.specs.Constants.{busSize}
+use Rattle.transfer.specs.Constants.{busSize}
 use Rattle.controller.specs.Cycle.{cycleBy, runReuCycle}
 use Rattle.controller.specs.Refusals.{checked, refusalOf}
 

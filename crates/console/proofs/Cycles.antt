@@ -10,7 +10,7 @@ use borrow.Author.Tests.{eqb-false, le-ltb, ne-eqb}
 use Rattle.controller.specs.declared.reu.Answer.{Answer}
 use Rattle.controller.specs.declared.reu.Reu.{Reu}
 use Rattle.controller.specs.Calls.{busActionCall, cycleCall}
-use Rattle.controller.specs.Constants.{busSize}
+use Rattle.transfer.specs.Constants.{busSize}
 use Rattle.controller.specs.Refusals.{checked, refusalOf, wellFormed}
 use Rattle.image.specs.Open.{bytesOk, imageOk, openImage}
 use Rattle.reu.specs.Exports.{changeBoth, changeStorage, changedBoth, changedStorage, code, flag, refusal, refusalUnit, reuBusAction, reuCycle}

@@ -8,7 +8,7 @@ use lib.Dec.{eqb}
 use lib.ListN.{length}
 use borrow.Author.Tests.{eq-eqb, eqb-false, eqb-true, ne-eqb}
 use Rattle.controller.specs.Calls.{dmaActiveCall}
-use Rattle.controller.specs.Constants.{busSize}
+use Rattle.transfer.specs.Constants.{busSize}
 use Rattle.image.specs.Layout.{placeOf, transferExp}
 use Rattle.image.specs.Open.{openImage}
 use Rattle.reu.proofs.Families.{look-refused}
@@ -17,8 +17,8 @@ use Rattle.pane.proofs.Cuts.{then}
 use Rattle.pane.specs.Answers.{accepted}
 use Rattle.pane.specs.Rows.{copyOf, longAt}
 use Rattle.pane.specs.Shown.{_⊕_, decimalOf}
-use Rattle.controller.specs.Bytes.{bit, bitOf}
-use Rattle.controller.proofs.Bits.{bit-digit, low-digit}
+use Rattle.transfer.specs.Bytes.{bit, bitOf}
+use Rattle.transfer.proofs.Bits.{bit-digit, low-digit}
 use Rattle.console.specs.declared.clock.Clock.{Clock}
 use Rattle.console.specs.declared.step.Cycle.{Cycle}
 use Rattle.console.specs.declared.step.Run.{Run}

@@ -4,7 +4,7 @@ use Prim.Native.Nat.{ℕ, _/_}
 use mathlib.Core.Bool.{cond}
 use mathlib.Core.List.{List, [], _∷_}
 use lib.Dec.{eqb}
-use Rattle.controller.specs.Memory.{zeros}
+use Rattle.transfer.specs.Memory.{zeros}
 use Rattle.reu.specs.Exports.{reuDmaActive, reuNew, reuReset, reuSetEnabled, reuTriggerFf00}
 use Rattle.pane.specs.Shown.{_⊕_, ascii, decimalOf, textOf}
 use Rattle.pane.specs.Typed.{numberOf, valueOf, wordOf, wordsOf}

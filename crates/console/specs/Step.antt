@@ -4,7 +4,7 @@ use mathlib.Core.Bool.{cond}
 use mathlib.Core.List.{List, [], _∷_}
 use lib.Dec.{eqb}
 use lib.ListN.{getD}
-use Rattle.controller.specs.Bytes.{bit, bitOf}
+use Rattle.transfer.specs.Bytes.{bit, bitOf}
 use Rattle.image.specs.Layout.{placeOf, transferExp}
 use Rattle.reu.specs.Exports.{refusalUnit, reuBusAction, reuC64Access, reuCycle, reuDmaActive}
 use Rattle.pane.specs.Answers.{accepted, refusedBy}

@@ -14,7 +14,7 @@ use pane::faults::value;
 use pane::line::Line;
 ghost use mathlib.Core.Path.{_≡_};
 ghost use mathlib.Core.List.{[]};
-ghost use Rattle.controller.specs.Memory.{zeros};
+ghost use Rattle.transfer.specs.Memory.{zeros};
 ghost use Rattle.pane.specs.Shown.{textOf};
 ghost use Rattle.pane.specs.Typed.{wordOf};
 ghost use Rattle.reu.specs.Exports.{reuNew, reuReset, reuSetEnabled, reuTriggerFf00};
@@ -146,8 +146,8 @@ fn renew(image: &mut [u8], bus: &mut [u8], storage: &mut [u8]) -> Applied
     ensures { λ r. ⌜ now (storage .exit) ≡ zeros (now (storage .entry)) ⌝ }
 {
     reu::reu_new(image);
-    controller::clear(bus);
-    controller::clear(storage);
+    transfer::clear(bus);
+    transfer::clear(storage);
     Applied {
         clock: Clock::new(),
         said: Line::new(),

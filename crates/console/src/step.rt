@@ -10,7 +10,7 @@ use pane::rows::transfer_expansion;
 ghost use mathlib.Core.Path.{_≡_};
 ghost use mathlib.Core.Bool.{cond};
 ghost use lib.Dec.{eqb};
-ghost use Rattle.controller.specs.Constants.{busSize};
+ghost use Rattle.transfer.specs.Constants.{busSize};
 ghost use Rattle.pane.specs.Shown.{_⊕_, textOf};
 ghost use Rattle.console.specs.Clock.{timeAfter, timeOf};
 ghost use Rattle.console.specs.Step.{accessText, advanced, askedOf, baText, bytesThere, counted, cycleLine, cycleOf, goOf, grantText, refusedCycle, runLine, started};

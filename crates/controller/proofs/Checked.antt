@@ -6,7 +6,7 @@ use lib.Dec.{eqb}
 use native.Mathlib.Omega.{arith}
 use borrow.Author.Tests.{eqb-true, eq-eqb, ne-eqb}
 use Rattle.controller.specs.Prelude.{Reu}
-use Rattle.controller.specs.Constants.{busSize, storageSize}
+use Rattle.transfer.specs.Constants.{busSize, storageSize}
 use Rattle.controller.specs.Refusals.{wellFormed, refusalOf, checked}
 
 pub record Accepted (u : Reu) (bus storage : ℕ) : Type 0 where

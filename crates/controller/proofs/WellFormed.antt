@@ -5,9 +5,10 @@ use Prim.Native.Nat.{ℕ, _≤_, _<_}
 use lib.Dec.{leb, ltb}
 use borrow.Author.Tests.{leb-true, ltb-true}
 use Rattle.controller.specs.Prelude.{Reu, Dma, Idle, Running, DmaState}
-use Rattle.controller.specs.Constants.{expansionLimit, fullLength}
+use Rattle.transfer.specs.Constants.{expansionLimit, fullLength}
 use Rattle.controller.specs.Inner.{InRange, InRangeDma}
-use Rattle.controller.specs.Refusals.{wellTransfer, wellDma, wellFormed}
+use Rattle.controller.specs.Refusals.{wellFormed}
+use Rattle.transfer.specs.Dma.{wellTransfer, wellDma}
 
 pub fst : (a b : Bool) → (a && b) ≡ true → a ≡ true
 fst true b e = refl

@@ -1,21 +1,12 @@
 -- `bus_action`, the grant of a cycle, in the original's order: the rise, the recall's fall, the terminal pair, the delay, the fall rules, the grant record.
-use Rattle.controller.specs.Prelude.{ℕ, _-_, Bool, true, false, not, _&&_, _||_, Bool·beq, cond, List, eqb, Recall, Swap, ReadC64, Dma, Idle, Running, Put, Nothing, Storage, Hold, Transfer, ReuBusAction, Reu, BusAnswer, FlagAnswer}
-use Rattle.controller.specs.Constants.{command, withoutFf00}
-use Rattle.controller.specs.Bytes.{bit}
-use Rattle.controller.specs.Reu.{reg, withDma, withHistory, withRepeat, withTerminal, withRefresh, withRelease, withDelay, withPhase}
-use Rattle.controller.specs.Memory.{putStorage}
-use Rattle.controller.specs.Timing.{actionForCycle, c64Access, reads, writes}
-use Rattle.controller.specs.Dma.{isType, isWritePhase, active, runs, firstByte, lastByte}
-
--- a swap is in its read phase, in its write phase; a recall has moved no byte yet
-abbrev pub swapReads : Dma → Bool
-swapReads x = runs (λ d. isType (d .«transfer_type») Swap && not (isWritePhase (d .«swap_phase»))) x
-
-abbrev pub swapWrites : Dma → Bool
-swapWrites x = runs (λ d. isType (d .«transfer_type») Swap && isWritePhase (d .«swap_phase»)) x
-
-abbrev pub recallStarts : Dma → Bool
-recallStarts x = runs (λ d. isType (d .«transfer_type») Recall && d .«first_byte») x
+use Rattle.controller.specs.Prelude.{ℕ, _-_, Bool, true, false, not, _&&_, _||_, cond, List, eqb, Put, Nothing, Hold, Transfer, ReuBusAction, Reu, BusAnswer, FlagAnswer}
+use Rattle.transfer.specs.Constants.{command, withoutFf00}
+use Rattle.transfer.specs.Bytes.{bit}
+use Rattle.controller.specs.Reu.{reg, withDma, withHistory, withRepeat, withTerminal, withRefresh, withRelease, withDelay}
+use Rattle.transfer.specs.Memory.{putStorage}
+use Rattle.controller.specs.Timing.{c64Access}
+use Rattle.transfer.specs.Timing.{actionForCycle, readAgain, reads, recallStarts, restored, resumes, swapReads, swapWrites, writes}
+use Rattle.transfer.specs.Dma.{active, firstByte, lastByte}
 
 -- the grant, the controller after it, and what is written
 abbrev pub grants : ReuBusAction → Reu → Put → BusAnswer
@@ -27,15 +18,6 @@ granted action u = grants action u Nothing
 -- the grant record's plain rule
 unfoldable pub plain : Reu → Bool → BusAnswer
 plain u high = granted (actionForCycle (active (u .dma)) high) u
-
--- a swap's write phase "restores the storage byte and returns to the read phase"
-abbrev pub readAgain : Dma → Dma
-readAgain Idle = Idle
-readAgain (Running d) = Running (withPhase d ReadC64)
-
-abbrev pub restored : Dma → Put
-restored Idle = Nothing
-restored (Running d) = Storage (d .«reu_addr») (d .latch)
 
 abbrev pub givenUp : ReuBusAction → Reu → BusAnswer
 givenUp action u = grants action (withDma u (readAgain (u .dma))) (restored (u .dma))
@@ -72,10 +54,6 @@ decide u high falling late =
     cond (u .«terminal_swap_write») (granted Transfer (withTerminal u false))
     (cond (eqb (u .«swap_read_delay») 0) (cond falling (fall u late) (plain u high))
     (granted (cond (eqb (u .«swap_read_delay») 1) Transfer Hold) (withDelay u (u .«swap_read_delay» - 1))))
-
--- "a rise on a write phase with equal parity"
-abbrev pub resumes : Dma → ℕ → Bool
-resumes x cycle = swapWrites x && Bool·beq (runs (λ d. d .«read_clock_odd») x) (bit cycle 0)
 
 -- BA rises: the write is given up where it resumes, and then the cycle is decided
 unfoldable pub rise : Reu → Bool → ℕ → BusAnswer

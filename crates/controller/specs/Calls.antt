@@ -1,10 +1,11 @@
 -- The public calls on a controller value: "A refusal has value 0 and changes no controller and no byte of anything lent".
-use Rattle.controller.specs.Prelude.{ℕ, _+_, _*_, Bool, cond, List, length, Cpu, Hold, Transfer, ReuBusAction, None, Read, Write, ReuC64Access, Reu, Answer, Stepped}
-use Rattle.controller.specs.Constants.{busSize, storageSize}
-use Rattle.controller.specs.Bytes.{bitOf}
+use Rattle.controller.specs.Prelude.{ℕ, Bool, cond, List, length, Reu, Answer, Stepped}
+use Rattle.transfer.specs.Constants.{busSize, storageSize}
+use Rattle.transfer.specs.Bytes.{bitOf}
 use Rattle.controller.specs.Registers.{readRegister, writeRegister, debugRegister}
 use Rattle.controller.specs.Timing.{c64Access}
-use Rattle.controller.specs.Dma.{active}
+use Rattle.transfer.specs.Timing.{accessNumber, actionNumber}
+use Rattle.transfer.specs.Dma.{active}
 use Rattle.controller.specs.StartDma.{triggerFf00}
 use Rattle.controller.specs.Enable.{resetReu, setEnabled}
 use Rattle.controller.specs.BusAction.{Granted, busAction, cpuReadyAfterDma}
@@ -12,18 +13,7 @@ use Rattle.controller.specs.TickDma.{Ticked, tickDma}
 use Rattle.controller.specs.Cycle.{runReuCycle}
 use Rattle.controller.specs.Refusals.{refusalOf, checked}
 
--- ---- "Values: a byte; 0/1; Cpu, Hold, Transfer 0, 1, 2; access 65,536 times 0 none, 1 read, 2 write, plus the address; the capacity"
-
-abbrev pub actionNumber : ReuBusAction → ℕ
-actionNumber Cpu = 0
-actionNumber Hold = 1
-actionNumber Transfer = 2
-
-abbrev pub accessNumber : ReuC64Access → ℕ
-accessNumber None = 0
-accessNumber (Read a) = 1 * 65536 + a .0
-accessNumber (Write a) = 2 * 65536 + a .0
-
+-- "Values: a byte; 0/1; ..; the capacity"
 abbrev pub capacity : Bool → ℕ
 capacity attached = cond attached storageSize 0
 

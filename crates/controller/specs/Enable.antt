@@ -1,9 +1,9 @@
 -- New, reset, and the enable switch.
 use Rattle.controller.specs.Prelude.{ℕ, Bool, true, false, cond, List, [], _∷_, Idle, Reu}
-use Rattle.controller.specs.Constants.{version, withoutFf00, bankOnes, maskOnes, controlOnes}
-use Rattle.controller.specs.Bytes.{ones}
+use Rattle.transfer.specs.Constants.{version, withoutFf00, bankOnes, maskOnes, controlOnes}
+use Rattle.transfer.specs.Bytes.{ones}
 use Rattle.controller.specs.Reu.{withPower, withDma, cleared}
-use Rattle.controller.specs.Memory.{zeros}
+use Rattle.transfer.specs.Memory.{zeros}
 
 -- R1: STATUS $10, COMMAND $10, addresses 0, bank $F8 over a shadow of 0, length $FFFF, mask $1F, control $3F; "BA was high is true"
 abbrev pub fresh : Bool → Bool → Reu

@@ -1,7 +1,7 @@
 -- The visible counters, the interrupt, and the end of a command.
 use Rattle.controller.specs.Prelude.{ℕ, Bool, cond, _&&_, _||_, List, [], _∷_, getD, set, DmaState, Idle, Reu}
-use Rattle.controller.specs.Constants.{status, command, c64Low, c64High, expLow, expHigh, expBank, lengthLow, lengthHigh, interruptMask, verifyError, endOfBlock, interrupt, withoutFf00, execute, enableAll}
-use Rattle.controller.specs.Bytes.{bit, setBits, clearBits, lowByte, highByte, bankByte}
+use Rattle.transfer.specs.Constants.{status, command, c64Low, c64High, expLow, expHigh, expBank, lengthLow, lengthHigh, interruptMask, verifyError, endOfBlock, interrupt, withoutFf00, execute, enableAll}
+use Rattle.transfer.specs.Bytes.{bit, setBits, clearBits, lowByte, highByte, bankByte}
 use Rattle.controller.specs.Reu.{reg, withRegs, withIrq, withDma}
 
 -- an event is enabled, and so are all: "Mask bits 5, 6, 7 enable verify, end of block, all"

@@ -1,6 +1,6 @@
 -- The ranges of a transfer that passes the test, as facts. No public contract cites this file.
 use Rattle.controller.specs.Prelude.{_≤_, _<_, DmaState, Dma, Idle, Running}
-use Rattle.controller.specs.Constants.{expansionLimit, fullLength}
+use Rattle.transfer.specs.Constants.{expansionLimit, fullLength}
 
 pub record InRange (d : DmaState) : Type 0 where
   pub low : 1 ≤ d .remaining

@@ -1,11 +1,7 @@
 pub mod Prelude
-pub mod Constants
-pub mod Bytes
 pub mod Reu
 pub mod Registers
-pub mod Memory
 pub mod Timing
-pub mod Dma
 pub mod StartDma
 pub mod FinishDma
 pub mod Enable

@@ -1,20 +1,7 @@
 -- "Refused, by who can cause it": the refusal numbers of a controller value and of the lengths that are lent with it.
-use Rattle.controller.specs.Prelude.{ℕ, Bool, true, false, not, _&&_, _||_, cond, List, [], _∷_, eqb, leb, ltb, Swap, Verify, DmaState, Dma, Idle, Running, Reu}
-use Rattle.controller.specs.Constants.{busSize, expansionLimit, storageSize, fullLength}
-use Rattle.controller.specs.Dma.{isType, isWritePhase}
-
--- "a write phase without swap, a tail without verify or with remaining other than 1"
-abbrev pub wellTransfer : DmaState → Bool
-wellTransfer d =
-    (leb 1 (d .remaining) && leb (d .remaining) fullLength)
-    && (ltb (d .«reu_addr» .0) expansionLimit
-    && ((not (isWritePhase (d .«swap_phase»)) || isType (d .«transfer_type») Swap)
-    && (not (d .«verify_tail») || (isType (d .«transfer_type») Verify && eqb (d .remaining) 1))))
-
--- "a transfer while not attached"
-abbrev pub wellDma : Bool → Dma → Bool
-wellDma attached Idle = true
-wellDma attached (Running d) = attached && wellTransfer d
+use Rattle.controller.specs.Prelude.{ℕ, Bool, _&&_, cond, List, [], _∷_, eqb, leb, ltb, Reu}
+use Rattle.transfer.specs.Constants.{busSize, expansionLimit, storageSize}
+use Rattle.transfer.specs.Dma.{wellDma}
 
 -- "delay 0-2"; an expansion address has 24 bits
 unfoldable pub wellFormed : Reu → Bool

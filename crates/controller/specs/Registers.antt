@@ -1,7 +1,7 @@
 -- The register record: what a read gives and does, what a write does, in the terms of the public register descriptions.
 use Rattle.controller.specs.Prelude.{ℕ, Bool, true, false, cond, [], _∷_, bitAnd, eqb, ltb, set, Reu, ReadAnswer}
-use Rattle.controller.specs.Constants.{status, command, c64Low, c64High, expLow, expHigh, expBank, lengthLow, lengthHigh, interruptMask, addressControl, registerCount, unusedRegister, verifyError, endOfBlock, interrupt, withoutFf00, execute, bankOnes, maskOnes, controlOnes}
-use Rattle.controller.specs.Bytes.{bit, setBits, clearBits, lowByte, highByte, withLow, withHigh, withBank}
+use Rattle.transfer.specs.Constants.{status, command, c64Low, c64High, expLow, expHigh, expBank, lengthLow, lengthHigh, interruptMask, addressControl, registerCount, unusedRegister, verifyError, endOfBlock, interrupt, withoutFf00, execute, bankOnes, maskOnes, controlOnes}
+use Rattle.transfer.specs.Bytes.{bit, setBits, clearBits, lowByte, highByte, withLow, withHigh, withBank}
 use Rattle.controller.specs.Reu.{reg, setReg, withRegs, withIrq, withArmed, withShadows}
 use Rattle.controller.specs.StartDma.{startDma}
 use Rattle.controller.specs.FinishDma.{updateIrq}

@@ -1,9 +1,10 @@
 -- A start, at once or by the FF00 trigger.
 use Rattle.controller.specs.Prelude.{Bool, true, false, cond, _&&_, [], _∷_, bitAnd, ReadC64, DmaState, Running, Reu}
-use Rattle.controller.specs.Constants.{status, command, c64Low, c64High, expLow, expHigh, expBank, lengthLow, lengthHigh, addressControl, version, autoloads, execute, fixesExp, fixesC64}
-use Rattle.controller.specs.Bytes.{bit, clearBits, keepBits, word, long}
-use Rattle.controller.specs.Reu.{reg, setReg, withIrq, withDma, cleared, dmaOf}
-use Rattle.controller.specs.Dma.{typeOf, lengthOf}
+use Rattle.transfer.specs.Constants.{status, command, c64Low, c64High, expLow, expHigh, expBank, lengthLow, lengthHigh, addressControl, version, autoloads, execute, fixesExp, fixesC64}
+use Rattle.transfer.specs.Bytes.{bit, clearBits, keepBits, word, long}
+use Rattle.controller.specs.Reu.{reg, setReg, withIrq, withDma, cleared}
+use Rattle.transfer.specs.Dma.{dmaOf}
+use Rattle.transfer.specs.Dma.{typeOf, lengthOf}
 
 -- the transfer that the registers show
 unfoldable pub requested : Reu → DmaState

@@ -1,10 +1,11 @@
 -- `tick_dma`, one granted cycle of a transfer. It sees the two bytes at the transfer's place, and writes at most one byte.
 use Rattle.controller.specs.Prelude.{ℕ, Bool, true, false, not, _&&_, _||_, cond, List, [], _∷_, eqb, set, Store, Recall, Swap, Verify, TransferType, SwapPhase, ReadC64, WriteC64, DmaState, Dma, Idle, Running, Seen, Put, Nothing, Bus, Storage, Reu, FlagAnswer, TickAnswer}
-use Rattle.controller.specs.Constants.{status, verifyError}
-use Rattle.controller.specs.Bytes.{bit, setBits}
-use Rattle.controller.specs.Reu.{reg, withRegs, withDma, withRelease, withRefresh, withRepeat, withPhase, withOdd, withLatch, withTail}
-use Rattle.controller.specs.Memory.{seenAt, putBus, putStorage}
-use Rattle.controller.specs.Dma.{isType, moved}
+use Rattle.transfer.specs.Constants.{status, verifyError}
+use Rattle.transfer.specs.Bytes.{bit, setBits}
+use Rattle.controller.specs.Reu.{reg, withRegs, withDma, withRelease, withRefresh, withRepeat}
+use Rattle.transfer.specs.Dma.{withPhase, withOdd, withLatch, withTail}
+use Rattle.transfer.specs.Memory.{putBus, putStorage}
+use Rattle.transfer.specs.Dma.{isType, moved, seenBy}
 use Rattle.controller.specs.FinishDma.{publishLiveCounters, finishDma}
 
 -- what a tick answers, the controller after it, and what it writes
@@ -87,11 +88,6 @@ tickOf (Running d) u b cycle low =
     cond (u .attached) (tickRunning u d b cycle low) (ticks false (withDma u Idle) Nothing)
 
 -- ---- on a bus and a storage
-
--- the bytes that a running transfer sees; none counts where there is no transfer
-abbrev pub seenBy : Dma → List ℕ → List ℕ → Seen
-seenBy Idle m s = record { bus = 0; storage = 0 }
-seenBy (Running d) m s = seenAt (d .«c64_addr») (d .«reu_addr») m s
 
 -- the answer and the controller, the bus, the storage
 abbrev pub Ticked : Type 0

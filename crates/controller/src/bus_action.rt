@@ -1,106 +1,26 @@
 // The grant of a cycle: BA's edges, the terminal pair, the delay, then the plain rule.
 ghost use mathlib.Core.Path.{_≡_};
-ghost use Rattle.controller.specs.BusAction.{cpuReadyAfterDma, decide, fall, fallOnRead, fallOnSwapWrite, fallOnWrite, granted, givenUp, nextAction, plain, readAgain, recallStarts, repeated, restored, resumes, rise, swapReads, swapWrites};
-ghost use Rattle.controller.specs.Dma.{runs};
+ghost use Rattle.controller.specs.BusAction.{cpuReadyAfterDma, decide, fall, fallOnRead, fallOnSwapWrite, fallOnWrite, granted, nextAction, plain, repeated, rise};
+ghost use Rattle.controller.specs.Timing.{c64Access};
 use crate::constants::COMMAND;
 use crate::constants::COMMAND_FF00_DISABLE;
 use crate::constants::LONGEST_READ_DELAY;
-use crate::dma::Dma;
-use crate::dma::SwapPhase;
-use crate::dma::TransferType;
-use crate::memory::Put;
 use crate::reu::BusAnswer;
 use crate::reu::FlagAnswer;
 use crate::reu::Reu;
-use crate::timing::ReuBusAction;
-use crate::timing::action_for_cycle;
-
-impl Dma {
-    fn swap_reads(self) -> bool
-        ensures { λ r. ⌜ r ≡ swapReads self ⌝ }
-    {
-        match self {
-            Dma::Idle => false,
-            Dma::Running(d) => {
-                let kind = d.transfer_type;
-                let phase = d.swap_phase;
-                let swap = TransferType::Swap;
-                kind.is(swap) & !phase.is_write()
-            }
-        }
-    }
-
-    fn swap_writes(self) -> bool
-        ensures { λ r. ⌜ r ≡ swapWrites self ⌝ }
-    {
-        match self {
-            Dma::Idle => false,
-            Dma::Running(d) => {
-                let kind = d.transfer_type;
-                let phase = d.swap_phase;
-                let swap = TransferType::Swap;
-                kind.is(swap) & phase.is_write()
-            }
-        }
-    }
-
-    fn recall_starts(self) -> bool
-        ensures { λ r. ⌜ r ≡ recallStarts self ⌝ }
-    {
-        match self {
-            Dma::Idle => false,
-            Dma::Running(d) => {
-                let kind = d.transfer_type;
-                let recall = TransferType::Recall;
-                kind.is(recall) & d.first_byte
-            }
-        }
-    }
-
-    fn odd_read(self) -> bool
-        ensures { λ r. ⌜ r ≡ runs (λ d. d .«read_clock_odd») self ⌝ }
-    {
-        match self {
-            Dma::Idle => false,
-            Dma::Running(d) => d.read_clock_odd,
-        }
-    }
-
-    // BA rises on a write phase whose read had the same parity.
-    fn resumes(self, cycle: u64) -> bool
-        ensures { λ r. ⌜ r ≡ resumes self cycle ⌝ }
-    {
-        let odd = cycle & 1 != 0;
-        self.swap_writes() & (self.odd_read() == odd)
-    }
-
-    // A swap's write half is given up: the read half comes next, and the storage has its byte again.
-    fn read_again(self) -> Dma
-        ensures { λ r. ⌜ r ≡ readAgain self ⌝ }
-    {
-        match self {
-            Dma::Idle => self,
-            Dma::Running(d) => {
-                let phase = SwapPhase::ReadC64;
-                Dma::Running(d.with_phase(phase))
-            }
-        }
-    }
-
-    fn restored(self) -> Put
-        ensures { λ r. ⌜ r ≡ restored self ⌝ }
-    {
-        match self {
-            Dma::Idle => Put::Nothing,
-            Dma::Running(d) => {
-                let addr = d.reu_addr;
-                Put::Storage(addr, d.latch)
-            }
-        }
-    }
-}
+use transfer::Put;
+use transfer::ReuBusAction;
+use transfer::ReuC64Access;
+use transfer::action_for_cycle;
 
 impl Reu {
+    pub(crate) fn next_access(self) -> ReuC64Access
+        ensures { λ r. ⌜ r ≡ c64Access self ⌝ }
+    {
+        let dma = self.dma;
+        dma.access(self.swap_refresh)
+    }
+
     // A grant that writes nothing.
     fn granted(self, action: ReuBusAction) -> BusAnswer
         ensures { λ r. ⌜ r ≡ granted action self ⌝ }

@@ -39,8 +39,6 @@ pub(crate) const STATUS_EVENT_MASK: u8 = STATUS_VERIFY_ERROR
     | STATUS_END_OF_BLOCK
     | STATUS_IRQ_PENDING;
 
-pub(crate) const COMMAND_TRANSFER_TYPE_MASK: u8 = 0x03;
-
 pub(crate) const COMMAND_FF00_DISABLE: u8 = 0x10;
 
 pub(crate) const COMMAND_AUTOLOAD: u8 = 0x20;
@@ -68,17 +66,13 @@ pub(crate) const BANK_UNUSED_READ_HIGH: u8 = 0xF8;
 
 pub(crate) const UNUSED_REGISTER_VALUE: u8 = 0xFF;
 
-pub(crate) const FULL_64K_TRANSFER_LENGTH: u32 = 65_536;
-
 // The longest wait of a swap's read.
 pub(crate) const LONGEST_READ_DELAY: u8 = 2;
 
-// The lengths of a lent bus and a lent storage, and the first number that is no expansion address.
+// The lengths of a lent bus and a lent storage.
 pub(crate) const BUS_BYTES: usize = 65_536;
 
 pub(crate) const REU_1764_CAPACITY_BYTES: usize = 524_288;
-
-pub(crate) const EXPANSION_ADDRESS_LIMIT: u32 = 0x0100_0000;
 
 // The refusals of a controller value, of a bus and of a storage.
 pub(crate) const ACCEPTED: u8 = 0;
@@ -88,6 +82,3 @@ pub(crate) const REFUSED_CONTROLLER: u8 = 2;
 pub(crate) const REFUSED_BUS: u8 = 3;
 
 pub(crate) const REFUSED_STORAGE: u8 = 4;
-
-// An access is answered as this times its kind, 1 for a read and 2 for a write, plus the address.
-pub(crate) const ACCESS_KIND: u32 = 65_536;

@@ -5,7 +5,7 @@ ghost use Rattle.controller.specs.Cycle.{cycleBy, runReuCycle};
 use crate::reu::FlagAnswer;
 use crate::reu::Reu;
 use crate::reu::Stepped;
-use crate::timing::ReuBusAction;
+use transfer::ReuBusAction;
 
 impl Reu {
     fn cycle_by(

@@ -20,9 +20,9 @@ use crate::constants::STATUS_IRQ_PENDING;
 use crate::constants::STATUS_VERIFY_ERROR;
 use crate::constants::TRANSFER_LENGTH_HIGH;
 use crate::constants::TRANSFER_LENGTH_LOW;
-use crate::dma::Dma;
-use crate::dma::DmaState;
 use crate::reu::Reu;
+use transfer::Dma;
+use transfer::DmaState;
 
 impl Reu {
     fn irq_due(self) -> bool

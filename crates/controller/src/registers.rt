@@ -1,7 +1,7 @@
 // The register interface.
 ghost use mathlib.Core.Path.{_≡_};
-ghost use Rattle.controller.specs.Constants.{addressControl, controlOnes, interruptMask, maskOnes};
-ghost use Rattle.controller.specs.Bytes.{setBits, withBank, withHigh, withLow};
+ghost use Rattle.transfer.specs.Constants.{addressControl, controlOnes, interruptMask, maskOnes};
+ghost use Rattle.transfer.specs.Bytes.{setBits, withBank, withHigh, withLow};
 ghost use Rattle.controller.specs.Reu.{setReg};
 ghost use Rattle.controller.specs.FinishDma.{updateIrq};
 ghost use Rattle.controller.specs.Registers.{debugRegister, readRegister, registerIndex, writeBank, writeC64, writeCommand, writeLen, writeRegister, writeExp};

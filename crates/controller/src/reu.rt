@@ -1,10 +1,9 @@
 // The controller, and its public calls. Each tests what it is handed, and answers a refusal, changing nothing, or does its work.
 ghost use mathlib.Core.Path.{_≡_};
-ghost use Rattle.controller.specs.Bytes.{bitOf};
+ghost use Rattle.transfer.specs.Bytes.{bitOf};
 ghost use Rattle.controller.specs.Enable.{disabled, fresh, newReu, resetReu, setEnabled};
-ghost use Rattle.controller.specs.Calls.{accessNumber, actionNumber, answered, busActionCall, c64AccessCall, call, capacity, capacityBytesCall, cpuReadyCall, cycleCall, debugRegisterCall, dmaActiveCall, readCall, refused, resetCall, setEnabledCall, storagePresentCall, tickCall, triggerCall, writeCall};
+ghost use Rattle.controller.specs.Calls.{answered, busActionCall, c64AccessCall, call, capacity, capacityBytesCall, cpuReadyCall, cycleCall, debugRegisterCall, dmaActiveCall, readCall, refused, resetCall, setEnabledCall, storagePresentCall, tickCall, triggerCall, writeCall};
 use crate::constants::ACCEPTED;
-use crate::constants::ACCESS_KIND;
 use crate::constants::ADDRESS_CONTROL_UNUSED_READ_HIGH;
 use crate::constants::BANK_UNUSED_READ_HIGH;
 use crate::constants::BUS_BYTES;
@@ -13,11 +12,10 @@ use crate::constants::INTERRUPT_UNUSED_READ_HIGH;
 use crate::constants::REGISTER_COUNT;
 use crate::constants::REU_1764_CAPACITY_BYTES;
 use crate::constants::STATUS_VERSION;
-use crate::dma::Dma;
-use crate::memory::Put;
-use crate::memory::clear;
-use crate::timing::ReuBusAction;
-use crate::timing::ReuC64Access;
+use transfer::Dma;
+use transfer::Put;
+use transfer::ReuBusAction;
+use transfer::clear;
 
 // The eleven registers beside the running command. The storage is the host's; `attached` says that it is there.
 pub struct Reu {
@@ -172,30 +170,6 @@ fn capacity(attached: bool) -> u32
         REU_1764_CAPACITY_BYTES as u32
     } else {
         0
-    }
-}
-
-impl ReuBusAction {
-    fn number(self) -> u32
-        ensures { λ r. ⌜ r ≡ actionNumber self ⌝ }
-    {
-        match self {
-            ReuBusAction::Cpu => 0,
-            ReuBusAction::Hold => 1,
-            ReuBusAction::Transfer => 2,
-        }
-    }
-}
-
-impl ReuC64Access {
-    fn number(self) -> u32
-        ensures { λ r. ⌜ r ≡ accessNumber self ⌝ }
-    {
-        match self {
-            ReuC64Access::None => 0,
-            ReuC64Access::Read(addr) => ACCESS_KIND + (addr.0 as u32),
-            ReuC64Access::Write(addr) => 2 * ACCESS_KIND + (addr.0 as u32),
-        }
     }
 }
 

@@ -1,8 +1,8 @@
 // A start, at once or by the FF00 trigger.
 ghost use mathlib.Core.Path.{_≡_};
-ghost use Rattle.controller.specs.Bytes.{long, word};
+ghost use Rattle.transfer.specs.Bytes.{long, word};
 ghost use Rattle.controller.specs.Reu.{cleared, withDma};
-ghost use Rattle.controller.specs.Dma.{lengthOf};
+ghost use Rattle.transfer.specs.Dma.{lengthOf};
 ghost use Rattle.controller.specs.StartDma.{requested, startDma, triggerFf00};
 use crate::constants::ADDRESS_CONTROL;
 use crate::constants::ADDRESS_CONTROL_FIX_C64;
@@ -12,7 +12,6 @@ use crate::constants::C64_ADDRESS_LOW;
 use crate::constants::COMMAND;
 use crate::constants::COMMAND_AUTOLOAD;
 use crate::constants::COMMAND_EXECUTE;
-use crate::constants::FULL_64K_TRANSFER_LENGTH;
 use crate::constants::REU_ADDRESS_BANK;
 use crate::constants::REU_ADDRESS_HIGH;
 use crate::constants::REU_ADDRESS_LOW;
@@ -20,13 +19,14 @@ use crate::constants::STATUS;
 use crate::constants::STATUS_VERSION;
 use crate::constants::TRANSFER_LENGTH_HIGH;
 use crate::constants::TRANSFER_LENGTH_LOW;
-use crate::dma::Dma;
-use crate::dma::DmaState;
-use crate::dma::SwapPhase;
-use crate::dma::TransferType;
-use crate::memory::C64Address;
-use crate::memory::ExpansionAddress;
 use crate::reu::Reu;
+use transfer::C64Address;
+use transfer::Dma;
+use transfer::DmaState;
+use transfer::ExpansionAddress;
+use transfer::FULL_64K_TRANSFER_LENGTH;
+use transfer::SwapPhase;
+use transfer::TransferType;
 
 // Two bytes as one number, the low byte first.
 fn word_of(lo: u8, hi: u8) -> u16

@@ -4,15 +4,15 @@ ghost use Rattle.controller.specs.TickDma.{advance, recalled, swapRead, 
 ghost use mathlib.Core.Bool.{false};
 use crate::constants::STATUS;
 use crate::constants::STATUS_VERIFY_ERROR;
-use crate::dma::Dma;
-use crate::dma::DmaState;
-use crate::dma::SwapPhase;
-use crate::dma::TransferType;
-use crate::memory::Put;
-use crate::memory::Seen;
 use crate::reu::FlagAnswer;
 use crate::reu::Reu;
 use crate::reu::TickAnswer;
+use transfer::Dma;
+use transfer::DmaState;
+use transfer::Put;
+use transfer::Seen;
+use transfer::SwapPhase;
+use transfer::TransferType;
 
 impl Reu {
     // A byte is done, with what was written for it: the counters move and are shown.

@@ -7,10 +7,10 @@ use native.Mathlib.Omega.{arith}
 use lib.ListN.{length, getD, take, drop, set}
 use lib.Seq.{sets}
 use borrow.Author.Tests.{eq-eqb, ne-eqb}
-use Rattle.controller.specs.Constants.{registerCount}
+use Rattle.transfer.specs.Constants.{registerCount}
 use Rattle.controller.specs.declared.reu.Reu.{Reu}
-use Rattle.controller.specs.declared.dma.Dma.{Dma}
-use Rattle.controller.specs.declared.dma.Dma.the-variants.{Idle, Running}
+use Rattle.transfer.specs.declared.dma.Dma.{Dma}
+use Rattle.transfer.specs.declared.dma.Dma.the-variants.{Idle, Running}
 use Rattle.image.specs.Radix.{parted, below}
 use Rattle.image.specs.Fields.{radices, values, laid, lifted}
 use Rattle.image.specs.Layout.{fields, imageSize, at, shadowC64, shadowExp, shadowLength, flags, moreFlags, delay, transfer, kind, placeOf, flagsOf, flagBits, moreBits, present, transferFields, transferNumbers, otherWith, packImage, transferOf, dmaIn}

@@ -8,8 +8,8 @@ use native.Mathlib.Omega.{arith}
 use lib.Dec.{eqb}
 use lib.ListN.{length, getD, replicate}
 use borrow.Author.Tests.{eq-eqb, ne-eqb}
-use Rattle.controller.specs.Bytes.{bit, bitOf}
-use Rattle.controller.proofs.Bits.{bit-div, bit-digit}
+use Rattle.transfer.specs.Bytes.{bit, bitOf}
+use Rattle.transfer.proofs.Bits.{bit-div, bit-digit}
 use Rattle.image.specs.Layout.{flagsOf}
 use Rattle.image.proofs.Radix.{product, Below, joined-below}
 

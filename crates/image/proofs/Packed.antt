@@ -7,20 +7,20 @@ use native.Mathlib.Omega.{arith}
 use lib.ListN.{length, getD, take, drop, replicate}
 use lib.Dec.{eqb}
 use Rattle.controller.specs.declared.reu.Reu.{Reu}
-use Rattle.controller.specs.declared.dma.DmaState.{DmaState}
-use Rattle.controller.specs.declared.dma.Dma.{Dma}
-use Rattle.controller.specs.declared.dma.Dma.the-variants.{Idle, Running}
-use Rattle.controller.specs.declared.dma.TransferType.{TransferType}
-use Rattle.controller.specs.declared.dma.TransferType.the-variants.{Store, Recall, Swap, Verify}
-use Rattle.controller.specs.declared.dma.SwapPhase.{SwapPhase}
-use Rattle.controller.specs.declared.dma.SwapPhase.the-variants.{ReadC64, WriteC64}
+use Rattle.transfer.specs.declared.dma.DmaState.{DmaState}
+use Rattle.transfer.specs.declared.dma.Dma.{Dma}
+use Rattle.transfer.specs.declared.dma.Dma.the-variants.{Idle, Running}
+use Rattle.transfer.specs.declared.dma.TransferType.{TransferType}
+use Rattle.transfer.specs.declared.dma.TransferType.the-variants.{Store, Recall, Swap, Verify}
+use Rattle.transfer.specs.declared.dma.SwapPhase.{SwapPhase}
+use Rattle.transfer.specs.declared.dma.SwapPhase.the-variants.{ReadC64, WriteC64}
 use Rattle.controller.specs.Reu.{withRegs}
-use Rattle.controller.specs.Dma.{typeNumber, typeOf}
+use Rattle.transfer.specs.Dma.{typeNumber, typeOf}
 use Rattle.controller.specs.Refusals.{wellFormed}
 use Rattle.controller.specs.Inner.{InRangeDma}
 use Rattle.controller.proofs.WellFormed.{well-range, well-shadow, well-delay}
 use Rattle.image.specs.Radix.{below}
-use Rattle.controller.specs.Constants.{registerCount}
+use Rattle.transfer.specs.Constants.{registerCount}
 use Rattle.image.specs.Fields.{radices, values, laid, lifted}
 use Rattle.image.specs.Layout.{fields, imageSize, kind, phaseNumber, phaseOf, present, flagBits, moreBits, optionBits, transferFields, transferNumbers, otherWith, otherNumbers, numbersOf, packImage, transferOf, controllerOf, reuAt}
 use Rattle.image.specs.Open.{allZero, idleOk, bytesOk, imageOk, openImage}

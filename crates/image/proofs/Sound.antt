@@ -8,18 +8,18 @@ use lib.ListN.{length, getD, set, length-set}
 use lib.Dec.{eqb, leb}
 use native.Mathlib.Omega.{arith}
 use Rattle.controller.specs.declared.reu.Reu.{Reu}
-use Rattle.controller.specs.declared.dma.DmaState.{DmaState}
-use Rattle.controller.specs.declared.dma.Dma.{Dma}
-use Rattle.controller.specs.declared.dma.Dma.the-variants.{Idle, Running}
-use Rattle.controller.specs.declared.dma.TransferType.{TransferType}
-use Rattle.controller.specs.declared.dma.TransferType.the-variants.{Swap, Verify}
-use Rattle.controller.specs.declared.dma.SwapPhase.{SwapPhase}
-use Rattle.controller.specs.Constants.{maskOnes, controlOnes}
-use Rattle.controller.specs.Bytes.{bit, setBits}
-use Rattle.controller.specs.Dma.{isType, isWritePhase}
+use Rattle.transfer.specs.declared.dma.DmaState.{DmaState}
+use Rattle.transfer.specs.declared.dma.Dma.{Dma}
+use Rattle.transfer.specs.declared.dma.Dma.the-variants.{Idle, Running}
+use Rattle.transfer.specs.declared.dma.TransferType.{TransferType}
+use Rattle.transfer.specs.declared.dma.TransferType.the-variants.{Swap, Verify}
+use Rattle.transfer.specs.declared.dma.SwapPhase.{SwapPhase}
+use Rattle.transfer.specs.Constants.{maskOnes, controlOnes}
+use Rattle.transfer.specs.Bytes.{bit, setBits}
+use Rattle.transfer.specs.Dma.{isType, isWritePhase}
 use Rattle.controller.specs.FinishDma.{counters}
 use Rattle.controller.specs.Enable.{fresh}
-use Rattle.controller.proofs.Pick.{by-test}
+use Rattle.transfer.proofs.Pick.{by-test}
 use Rattle.image.proofs.Packed.{all-below}
 
 -- ---- the registers

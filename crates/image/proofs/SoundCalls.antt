@@ -12,33 +12,37 @@ use Rattle.controller.specs.declared.reu.Reu.{Reu}
 use Rattle.controller.specs.declared.reu.ReadAnswer.{ReadAnswer}
 use Rattle.controller.specs.declared.reu.BusAnswer.{BusAnswer}
 use Rattle.controller.specs.declared.reu.TickAnswer.{TickAnswer}
-use Rattle.controller.specs.declared.dma.DmaState.{DmaState}
-use Rattle.controller.specs.declared.dma.Dma.{Dma}
-use Rattle.controller.specs.declared.dma.Dma.the-variants.{Idle, Running}
-use Rattle.controller.specs.declared.dma.TransferType.{TransferType}
-use Rattle.controller.specs.declared.dma.TransferType.the-variants.{Store, Recall, Swap, Verify}
-use Rattle.controller.specs.declared.dma.SwapPhase.{SwapPhase}
-use Rattle.controller.specs.declared.dma.SwapPhase.the-variants.{ReadC64, WriteC64}
-use Rattle.controller.specs.declared.memory.C64Address.{C64Address}
-use Rattle.controller.specs.declared.memory.ExpansionAddress.{ExpansionAddress}
-use Rattle.controller.specs.declared.memory.Seen.{Seen}
-use Rattle.controller.specs.declared.memory.Put.{Put}
-use Rattle.controller.specs.declared.memory.Put.the-variants.{Nothing, Bus, Storage}
-use Rattle.controller.specs.declared.timing.ReuBusAction.{ReuBusAction}
-use Rattle.controller.specs.declared.timing.ReuBusAction.the-variants.{Cpu, Hold, Transfer}
-use Rattle.controller.specs.Bytes.{bit, word}
-use Rattle.controller.specs.Reu.{reg, setReg, withRegs, withArmed, withDma, withHistory, withRepeat, withLatch, withRelease}
+use Rattle.transfer.specs.declared.dma.DmaState.{DmaState}
+use Rattle.transfer.specs.declared.dma.Dma.{Dma}
+use Rattle.transfer.specs.declared.dma.Dma.the-variants.{Idle, Running}
+use Rattle.transfer.specs.declared.dma.TransferType.{TransferType}
+use Rattle.transfer.specs.declared.dma.TransferType.the-variants.{Store, Recall, Swap, Verify}
+use Rattle.transfer.specs.declared.dma.SwapPhase.{SwapPhase}
+use Rattle.transfer.specs.declared.dma.SwapPhase.the-variants.{ReadC64, WriteC64}
+use Rattle.transfer.specs.declared.memory.C64Address.{C64Address}
+use Rattle.transfer.specs.declared.memory.ExpansionAddress.{ExpansionAddress}
+use Rattle.transfer.specs.declared.memory.Seen.{Seen}
+use Rattle.transfer.specs.declared.memory.Put.{Put}
+use Rattle.transfer.specs.declared.memory.Put.the-variants.{Nothing, Bus, Storage}
+use Rattle.transfer.specs.declared.timing.ReuBusAction.{ReuBusAction}
+use Rattle.transfer.specs.declared.timing.ReuBusAction.the-variants.{Cpu, Hold, Transfer}
+use Rattle.transfer.specs.Bytes.{bit, word}
+use Rattle.controller.specs.Reu.{reg, setReg, withRegs, withArmed, withDma, withHistory, withRepeat, withRelease}
+use Rattle.transfer.specs.Dma.{withLatch}
 use Rattle.controller.specs.Registers.{readRegister, writeRegister, writeCommand}
-use Rattle.controller.specs.Memory.{nextC64, nextExp, putBus, putStorage, zeros}
-use Rattle.controller.specs.Timing.{reads, writes, c64Access}
-use Rattle.controller.specs.Dma.{isType, lengthOf, moved, firstByte, lastByte}
+use Rattle.transfer.specs.Memory.{nextC64, nextExp, putBus, putStorage, zeros}
+use Rattle.controller.specs.Timing.{c64Access}
+use Rattle.transfer.specs.Timing.{reads, writes}
+use Rattle.transfer.specs.Dma.{isType, lengthOf, moved, firstByte, lastByte}
 use Rattle.controller.specs.StartDma.{requested, startDma, triggerFf00}
 use Rattle.controller.specs.FinishDma.{updateIrq, irqDue, publishLiveCounters, finishedStatus, finishedCommand, autoloaded, finishDma}
 use Rattle.controller.specs.Enable.{fresh, setEnabled}
-use Rattle.controller.specs.BusAction.{readAgain, restored, repeated, plain, fallOnRead, fallOnSwapWrite, fallOnWrite, fall, decide, resumes, rise, nextAction, busAction, swapReads, swapWrites}
-use Rattle.controller.specs.TickDma.{advance, tickStore, tickRecall, recalled, swapRead, swapWrite, tickSwap, differs, withError, tickVerify, tickByType, tickRefresh, tickTail, tickRunning, tickOf, seenBy, tickDma}
+use Rattle.controller.specs.BusAction.{repeated, plain, fallOnRead, fallOnSwapWrite, fallOnWrite, fall, decide, rise, nextAction, busAction}
+use Rattle.transfer.specs.Timing.{readAgain, restored, resumes, swapReads, swapWrites}
+use Rattle.controller.specs.TickDma.{advance, tickStore, tickRecall, recalled, swapRead, swapWrite, tickSwap, differs, withError, tickVerify, tickByType, tickRefresh, tickTail, tickRunning, tickOf, tickDma}
+use Rattle.transfer.specs.Dma.{seenBy}
 use Rattle.controller.specs.Cycle.{cycleBy, runReuCycle}
-use Rattle.controller.proofs.Pick.{by-test}
+use Rattle.transfer.proofs.Pick.{by-test}
 use Rattle.controller.proofs.WellFormed.{fst, snd}
 use Rattle.image.specs.Valid.{Bytes}
 use Rattle.image.proofs.Sound.{SoundRegs, fresh-regs, and-byte, set-each, store, plain-fits, cleared-fits, mask-fits, control-fits, raise, count-pair, count-all, SoundTransfer, SoundDma, with-step, Sound, with-regs, with-shadows, with-delay, with-dma}

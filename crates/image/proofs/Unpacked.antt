@@ -8,14 +8,14 @@ use lib.ListN.{length, getD, take, drop, replicate, take-append-drop}
 use lib.Seq.{length-take-le}
 use lib.Dec.{eqb}
 use borrow.Author.Tests.{eqb-true, eqb-false}
-use Rattle.controller.specs.declared.dma.Dma.{Dma}
-use Rattle.controller.specs.declared.dma.Dma.the-variants.{Idle, Running}
-use Rattle.controller.specs.Dma.{typeNumber, typeOf}
+use Rattle.transfer.specs.declared.dma.Dma.{Dma}
+use Rattle.transfer.specs.declared.dma.Dma.the-variants.{Idle, Running}
+use Rattle.transfer.specs.Dma.{typeNumber, typeOf}
 use Rattle.controller.specs.Refusals.{wellFormed}
 use Rattle.image.specs.declared.Opened.{Opened}
 use Rattle.image.specs.Radix.{below}
 use Rattle.image.specs.Fields.{radices, values, laid, lifted}
-use Rattle.controller.specs.Constants.{registerCount}
+use Rattle.transfer.specs.Constants.{registerCount}
 use Rattle.image.specs.Layout.{fields, imageSize, at, shadowC64, shadowExp, shadowLength, flags, moreFlags, delay, transfer, kind, phase, transferC64, transferExp, remaining, latch, options, transferFields, phaseNumber, phaseOf, present, transferNumbers, numbersOf, packImage, transferOf, dmaIn, controllerOf, reuAt}
 use Rattle.image.specs.Open.{allZero, idleOk, bytesOk, imageOk, openImage}
 use Rattle.image.specs.Valid.{Bytes, Typed, DmaTyped}

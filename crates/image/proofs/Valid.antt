@@ -7,12 +7,13 @@ use lib.Dec.{eqb, ltb, leb}
 use native.Mathlib.Omega.{arith}
 use borrow.Author.Tests.{lt-ltb, ltb-true, le-leb, leb-true}
 use Rattle.controller.specs.declared.reu.Reu.{Reu}
-use Rattle.controller.specs.declared.dma.DmaState.{DmaState}
-use Rattle.controller.specs.declared.dma.TransferType.the-variants.{Swap, Verify}
-use Rattle.controller.specs.declared.dma.Dma.{Dma}
-use Rattle.controller.specs.declared.dma.Dma.the-variants.{Idle, Running}
-use Rattle.controller.specs.Dma.{isType, isWritePhase}
-use Rattle.controller.specs.Refusals.{wellTransfer, wellDma, wellFormed}
+use Rattle.transfer.specs.declared.dma.DmaState.{DmaState}
+use Rattle.transfer.specs.declared.dma.TransferType.the-variants.{Swap, Verify}
+use Rattle.transfer.specs.declared.dma.Dma.{Dma}
+use Rattle.transfer.specs.declared.dma.Dma.the-variants.{Idle, Running}
+use Rattle.transfer.specs.Dma.{isType, isWritePhase}
+use Rattle.controller.specs.Refusals.{wellFormed}
+use Rattle.transfer.specs.Dma.{wellTransfer, wellDma}
 use Rattle.controller.proofs.WellFormed.{fst, snd, well-shadow, well-delay}
 use Rattle.image.specs.Layout.{packImage, reuAt}
 use Rattle.image.specs.Open.{openImage}

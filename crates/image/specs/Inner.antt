@@ -2,8 +2,8 @@
 use Prim.Native.Nat.{ℕ, _<_}
 use mathlib.Core.List.{List}
 use lib.ListN.{take, drop}
-use Rattle.controller.specs.Constants.{expansionLimit}
-use Rattle.controller.specs.declared.dma.DmaState.{DmaState}
+use Rattle.transfer.specs.Constants.{expansionLimit}
+use Rattle.transfer.specs.declared.dma.DmaState.{DmaState}
 use Rattle.image.specs.Layout.{fields, kind, transferFields}
 
 -- the transfer's fields

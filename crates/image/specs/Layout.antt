@@ -1,16 +1,16 @@
 -- The image record: one list of fields, from which packing, opening, the ranges and every place follow.
 use Rattle.controller.specs.Prelude.{ℕ, _+_, _-_, _^_, Bool, cond, List, [], _∷_, eqb, getD, length, replicate}
-use Rattle.controller.specs.declared.dma.SwapPhase.{SwapPhase}
-use Rattle.controller.specs.declared.dma.SwapPhase.the-variants.{ReadC64, WriteC64}
-use Rattle.controller.specs.declared.dma.DmaState.{DmaState}
-use Rattle.controller.specs.declared.dma.Dma.{Dma}
-use Rattle.controller.specs.declared.dma.Dma.the-variants.{Idle, Running}
+use Rattle.transfer.specs.declared.dma.SwapPhase.{SwapPhase}
+use Rattle.transfer.specs.declared.dma.SwapPhase.the-variants.{ReadC64, WriteC64}
+use Rattle.transfer.specs.declared.dma.DmaState.{DmaState}
+use Rattle.transfer.specs.declared.dma.Dma.{Dma}
+use Rattle.transfer.specs.declared.dma.Dma.the-variants.{Idle, Running}
 use Rattle.controller.specs.declared.reu.Reu.{Reu}
 use mathlib.Core.List.{_++_, map}
 use lib.ListN.{take}
-use Rattle.controller.specs.Constants.{registerCount, busSize, expansionLimit, fullLength}
-use Rattle.controller.specs.Bytes.{bit, bitOf}
-use Rattle.controller.specs.Dma.{typeNumber, typeOf}
+use Rattle.transfer.specs.Constants.{registerCount, busSize, expansionLimit, fullLength}
+use Rattle.transfer.specs.Bytes.{bit, bitOf}
+use Rattle.transfer.specs.Dma.{typeNumber, typeOf}
 use Rattle.image.specs.Radix.{joined}
 use Rattle.image.specs.Fields.{size, laid, lifted}
 

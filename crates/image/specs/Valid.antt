@@ -1,9 +1,9 @@
 -- What the types of a controller's fields say, and that a list is bytes.
 use Rattle.controller.specs.Prelude.{ℕ, _<_, _≡_, List, getD, length}
-use Rattle.controller.specs.declared.dma.Dma.{Dma}
-use Rattle.controller.specs.declared.dma.Dma.the-variants.{Idle, Running}
+use Rattle.transfer.specs.declared.dma.Dma.{Dma}
+use Rattle.transfer.specs.declared.dma.Dma.the-variants.{Idle, Running}
 use Rattle.controller.specs.declared.reu.Reu.{Reu}
-use Rattle.controller.specs.Constants.{registerCount}
+use Rattle.transfer.specs.Constants.{registerCount}
 
 pub record Bytes (s : List ℕ) : Type 0 where
   pub below : (i : ℕ) → getD s i 0 < 256

@@ -1,19 +1,19 @@
 // A controller laid down in an image, field by field.
 use crate::layout;
-use controller::C64Address;
-use controller::Dma;
-use controller::DmaState;
-use controller::ExpansionAddress;
 use controller::Reu;
-use controller::SwapPhase;
-use controller::TransferType;
+use transfer::C64Address;
+use transfer::Dma;
+use transfer::DmaState;
+use transfer::ExpansionAddress;
+use transfer::SwapPhase;
+use transfer::TransferType;
 ghost use mathlib.Core.Bool.{true};
 ghost use mathlib.Core.Path.{_≡_};
 ghost use Prim.Native.Nat.{_<_, _≤_};
 ghost use lib.ListN.{length, set};
 ghost use lib.Seq.{sets};
-ghost use Rattle.controller.specs.Bytes.{bitOf};
-ghost use Rattle.controller.specs.Constants.{expansionLimit};
+ghost use Rattle.transfer.specs.Bytes.{bitOf};
+ghost use Rattle.transfer.specs.Constants.{expansionLimit};
 ghost use Rattle.controller.specs.Refusals.{wellFormed};
 ghost use Rattle.image.specs.Radix.{parted};
 ghost use Rattle.controller.specs.Inner.{InRangeDma};

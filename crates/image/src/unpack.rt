@@ -1,17 +1,17 @@
 // The controller that an image holds, field by field, and whether each field is in its range.
 use crate::layout;
-use controller::C64Address;
-use controller::Dma;
-use controller::DmaState;
-use controller::ExpansionAddress;
 use controller::Reu;
-use controller::SwapPhase;
-use controller::TransferType;
+use transfer::C64Address;
+use transfer::Dma;
+use transfer::DmaState;
+use transfer::ExpansionAddress;
+use transfer::SwapPhase;
+use transfer::TransferType;
 ghost use mathlib.Core.Path.{_≡_};
 ghost use mathlib.Core.List.{[], _∷_};
 ghost use Prim.Native.Nat.{_+_, _≤_, _<_};
 ghost use lib.ListN.{drop, length, take};
-ghost use Rattle.controller.specs.Constants.{registerCount};
+ghost use Rattle.transfer.specs.Constants.{registerCount};
 ghost use Rattle.image.specs.Radix.{below, joined};
 ghost use Rattle.image.specs.Fields.{lifted, radices, values};
 ghost use Rattle.image.specs.Layout.{at, dmaIn, fields, imageSize, kind, phaseOf, reuAt, transferFields, transferOf};

@@ -5,8 +5,8 @@ use native.Mathlib.Nat.{div-eq-of-lt, lt-of-lt-of-le}
 use native.Mathlib.Omega.{arith}
 use lib.Dec.{eqb}
 use lib.Pow.{pow-mono}
-use Rattle.controller.proofs.Bits.{bit-div}
-use Rattle.controller.specs.Bytes.{bit, bitOf}
+use Rattle.transfer.proofs.Bits.{bit-div}
+use Rattle.transfer.specs.Bytes.{bit, bitOf}
 
 -- a number below 2 is its own bit
 one : (d : ℕ) → d < 2 → d ≡ bitOf (eqb d 1)

@@ -6,7 +6,7 @@ use lib.ListN.{replicate}
 use Rattle.pane.specs.declared.number.Number.the-variants.{Value, TooLarge, Bad}
 use Rattle.pane.specs.Faults.{faultOf, faultsFrom, faultsOf}
 use Rattle.controller.specs.Calls.{dmaActiveCall}
-use Rattle.controller.specs.Dma.{typeOf}
+use Rattle.transfer.specs.Dma.{typeOf}
 use Rattle.controller.specs.Refusals.{checked, refusalOf, wellFormed}
 use Rattle.image.specs.Layout.{reuAt}
 use Rattle.image.specs.Open.{bytesOk, imageOk, openImage}

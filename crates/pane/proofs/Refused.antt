@@ -7,9 +7,9 @@ use native.Mathlib.Omega.{arith}
 use lib.Dec.{eqb}
 use lib.ListN.{length, replicate}
 use borrow.Author.Tests.{lt-ltb, le-ltb, ne-eqb}
-use Rattle.controller.specs.Bytes.{bitOf}
+use Rattle.transfer.specs.Bytes.{bitOf}
 use Rattle.controller.specs.Calls.{dmaActiveCall}
-use Rattle.controller.specs.Dma.{active}
+use Rattle.transfer.specs.Dma.{active}
 use Rattle.controller.specs.Refusals.{checked, refusalOf, wellFormed}
 use Rattle.image.specs.Layout.{imageSize, reuAt}
 use Rattle.image.specs.Open.{bytesOk, imageOk, openImage}

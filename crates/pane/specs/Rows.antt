@@ -4,8 +4,8 @@ use mathlib.Core.Bool.{cond}
 use mathlib.Core.List.{List, [], _∷_}
 use lib.Dec.{eqb, ltb}
 use lib.ListN.{getD, length, replicate}
-use Rattle.controller.specs.Bytes.{long, word}
-use Rattle.controller.specs.Constants.{status, command, c64Low, expLow, lengthLow, interruptMask, addressControl}
+use Rattle.transfer.specs.Bytes.{long, word}
+use Rattle.transfer.specs.Constants.{status, command, c64Low, expLow, lengthLow, interruptMask, addressControl}
 use Rattle.image.specs.Layout.{imageSize, placeOf, shadowC64, shadowExp, shadowLength, flags, moreFlags, delay, transfer, kind, phase, transferC64, transferExp, remaining, latch, options}
 use Rattle.reu.specs.Exports.{reuDebugRegister, reuDmaActive, reuRead}
 use Rattle.pane.specs.Answers.{accepted, refusedBy}

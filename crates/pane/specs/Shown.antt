@@ -6,7 +6,7 @@ use mathlib.Core.Bool.{Bool, false, cond}
 use mathlib.Core.List.{List, [], _∷_, _++_}
 use lib.Dec.{ltb, eqb}
 use lib.ListN.{length, take, replicate}
-use Rattle.controller.specs.Bytes.{bit, bitOf}
+use Rattle.transfer.specs.Bytes.{bit, bitOf}
 use Rattle.pane.specs.declared.line.Line.{Line}
 
 -- the bytes of a quoted text

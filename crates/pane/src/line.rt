@@ -7,7 +7,7 @@ ghost use mathlib.Core.List.{_∷_, []};
 ghost use Prim.Native.Nat.{_+_, _-_, _≤_};
 ghost use lib.Dec.{eqb};
 ghost use lib.ListN.{length, take, drop, getD};
-ghost use Rattle.controller.specs.Bytes.{bit, bitOf};
+ghost use Rattle.transfer.specs.Bytes.{bit, bitOf};
 ghost use Rattle.pane.specs.Shown.{_⊕_, bitsFrom, decimalOf, decimalUpTo, fillFrom, hexDigit, hexOf, padded, textOf};
 ghost use Rattle.pane.specs.Typed.{isBlank, numberOf, wordOf, wordsOf};
 ghost use Rattle.pane.specs.Typed.{same as Typed·same};

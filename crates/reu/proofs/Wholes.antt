@@ -14,7 +14,7 @@ use Rattle.controller.specs.BusAction.{busAction, cpuReadyAfterDma}
 use Rattle.controller.specs.TickDma.{tickDma}
 use Rattle.controller.specs.Cycle.{runReuCycle}
 use Rattle.controller.specs.Calls.{answered, refused, resetCall, setEnabledCall, storagePresentCall, capacityBytesCall, triggerCall, readCall, writeCall, dmaActiveCall, busActionCall, cpuReadyCall, debugRegisterCall, c64AccessCall, tickCall, cycleCall}
-use Rattle.controller.proofs.Pick.{by-test}
+use Rattle.transfer.proofs.Pick.{by-test}
 use Rattle.image.specs.Valid.{Bytes}
 use Rattle.image.proofs.Sound.{Sound}
 use Rattle.image.proofs.SoundCalls.{SoundState, bytes-memory, sound-fresh, sound-trigger, sound-read, sound-write, sound-next, sound-switch, sound-tick-dma, sound-cycle}

@@ -3,7 +3,7 @@ use Prim.Native.Nat.{ℕ, _+_}
 use mathlib.Core.Bool.{Bool, true, false, cond, _&&_}
 use mathlib.Core.List.{List, [], _∷_, map}
 use lib.Dec.{eqb}
-use Rattle.controller.specs.Bytes.{bitOf}
+use Rattle.transfer.specs.Bytes.{bitOf}
 use Rattle.script.specs.Operations.{Played, andThen, rowOf}
 use Rattle.script.specs.Rows.{filledOf, operationOf, placeOf, valueOf}
 

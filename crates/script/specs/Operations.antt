@@ -5,7 +5,7 @@ use mathlib.Core.Bool.{Bool, true, false, cond, _&&_}
 use mathlib.Core.List.{List}
 use lib.Dec.{eqb, ltb}
 use lib.ListN.{length, getD, set}
-use Rattle.controller.specs.Bytes.{bit, bitOf}
+use Rattle.transfer.specs.Bytes.{bit, bitOf}
 use Rattle.reu.specs.Exports.{refusalUnit, reuBusAction, reuCycle, reuDebugRegister, reuNew, reuRead, reuReset, reuSetEnabled, reuTickDma, reuTriggerFf00, reuWrite}
 use Rattle.script.specs.Rows.{operationOf, placeOf, valueOf}
 

@@ -20,7 +20,7 @@ mod row;
 ghost use mathlib.Core.Path.{_≡_};
 ghost use Prim.Native.Nat.{_≤_};
 ghost use lib.ListN.{replicate};
-ghost use Rattle.controller.specs.Bytes.{bitOf};
+ghost use Rattle.transfer.specs.Bytes.{bitOf};
 ghost use Rattle.script.specs.Lines.{playTable};
 
 pub const AT: u64 = 0x1_0000;

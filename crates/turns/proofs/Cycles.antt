@@ -9,7 +9,7 @@ use lib.ListN.{length}
 use borrow.Author.Tests.{eq-eqb, eqb-false, eqb-true, le-ltb, lt-ltb, ltb-true}
 use Rattle.controller.specs.declared.reu.Answer.{Answer}
 use Rattle.controller.specs.declared.reu.Reu.{Reu}
-use Rattle.controller.specs.Bytes.{bit, bitOf}
+use Rattle.transfer.specs.Bytes.{bit, bitOf}
 use Rattle.controller.specs.Calls.{busActionCall, cycleCall}
 use Rattle.controller.specs.Refusals.{checked, refusalOf}
 use Rattle.image.specs.Open.{openImage}

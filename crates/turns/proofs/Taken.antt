@@ -9,11 +9,12 @@ use lib.ListN.{length}
 use borrow.Author.Tests.{eq-eqb}
 use Rattle.controller.specs.declared.reu.Answer.{Answer}
 use Rattle.controller.specs.declared.reu.Reu.{Reu}
-use Rattle.controller.specs.declared.timing.ReuBusAction.{ReuBusAction}
-use Rattle.controller.specs.declared.timing.ReuBusAction.the-variants.{Cpu, Hold, Transfer}
+use Rattle.transfer.specs.declared.timing.ReuBusAction.{ReuBusAction}
+use Rattle.transfer.specs.declared.timing.ReuBusAction.the-variants.{Cpu, Hold, Transfer}
 use Rattle.controller.specs.BusAction.{Granted, busAction}
-use Rattle.controller.specs.Calls.{actionNumber, answered, busActionCall, cycleCall, grantedAnswer, refused, tickedAnswer}
-use Rattle.controller.specs.Constants.{busSize}
+use Rattle.controller.specs.Calls.{answered, busActionCall, cycleCall, grantedAnswer, refused, tickedAnswer}
+use Rattle.transfer.specs.Timing.{actionNumber}
+use Rattle.transfer.specs.Constants.{busSize}
 use Rattle.controller.specs.Cycle.{cycleBy, runReuCycle}
 use Rattle.controller.specs.Refusals.{checked, refusalOf}
 use Rattle.controller.proofs.Checked.{accepted as lengths}

@@ -4,7 +4,7 @@ use mathlib.Core.Path.{_≡_}
 use mathlib.Core.Bool.{true, cond}
 use mathlib.Core.List.{List}
 use lib.Dec.{eqb, ltb}
-use Rattle.controller.specs.Bytes.{bit, bitOf}
+use Rattle.transfer.specs.Bytes.{bit, bitOf}
 use Rattle.reu.specs.Exports.{reuBusAction, reuCycle}
 use Rattle.pane.specs.Answers.{accepted}
 use Rattle.console.specs.Step.{cycleOf}

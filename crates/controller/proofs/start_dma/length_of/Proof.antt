@@ -1,5 +1,5 @@
 use borrow.Author.Tests.{ne-eqb}
-use Rattle.controller.specs.Dma.{lengthOf}
+use Rattle.transfer.specs.Dma.{lengthOf}
 use Rattle.controller.proofs.start_dma.length_of.Statement.{statement}
 use Rattle.controller.proofs.start_dma.length_of.Tie as tie
 

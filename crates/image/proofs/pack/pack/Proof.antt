@@ -9,7 +9,7 @@ use Rattle.controller.proofs.WellFormed.{well-range, well-shadow}
 use Rattle.image.specs.Radix.{parted}
 use Rattle.image.specs.Fields.{radices, laid}
 use Rattle.image.specs.Inner.{transferPart}
-use Rattle.controller.specs.Constants.{registerCount}
+use Rattle.transfer.specs.Constants.{registerCount}
 use Rattle.image.specs.Layout.{placeOf, shadowC64, shadowExp, shadowLength, flags, moreFlags, delay, transfer, kind}
 use Rattle.image.proofs.ByBytes.{over, over-is, over-long}
 use borrow.Author.Needs.{needs}

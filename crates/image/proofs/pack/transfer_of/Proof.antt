@@ -1,7 +1,7 @@
 use mathlib.Core.Path.{_≡_, _∙_, ap, sym, subst}
 use native.Mathlib.Omega.{arith}
-use Rattle.controller.specs.declared.dma.DmaState.{DmaState}
-use Rattle.controller.specs.declared.dma.Dma.the-variants.{Idle, Running}
+use Rattle.transfer.specs.declared.dma.DmaState.{DmaState}
+use Rattle.transfer.specs.declared.dma.Dma.the-variants.{Idle, Running}
 use Rattle.controller.specs.Inner.{InRange, InRangeDma}
 use Rattle.image.specs.Layout.{transferNumbers}
 use Rattle.image.specs.Inner.{Room}

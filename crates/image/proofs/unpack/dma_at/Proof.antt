@@ -1,5 +1,5 @@
 use mathlib.Core.Path.{_∙_, ap, sym}
-use Rattle.controller.specs.declared.dma.Dma.the-variants.{Running}
+use Rattle.transfer.specs.declared.dma.Dma.the-variants.{Running}
 use Rattle.image.proofs.ByBytes.{dma-none, dma-some}
 use borrow.Author.Needs.{needs}
 use Rattle.image.proofs.unpack.dma_at.Statement.{statement}

@@ -1,7 +1,7 @@
 use borrow.Author.Tests.{lt-ltb, le-ltb}
 use Rattle.script.specs.Operations.{isLevel}
 use lib.ListN.{getD}
-use Rattle.controller.proofs.Bits.{bit-digit}
+use Rattle.transfer.proofs.Bits.{bit-digit}
 use borrow.Author.Needs.{needs}
 use Rattle.script.proofs.controller_rows.level_is.Statement.{statement}
 use Rattle.script.proofs.controller_rows.level_is.Tie as tie

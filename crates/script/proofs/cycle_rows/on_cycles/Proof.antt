@@ -4,7 +4,7 @@ use Prim.Native.Nat.{ℕ, _+_, _-_, _/_, _%_}
 use native.Mathlib.Omega.{arith}
 use borrow.Author.Tests.{le-ltb, lt-ltb}
 use Rattle.script.specs.Operations.{cyclesRow, playCycles}
-use Rattle.controller.proofs.Bits.{bit-digit, low-digit}
+use Rattle.transfer.proofs.Bits.{bit-digit, low-digit}
 use borrow.Author.Needs.{needs}
 use Rattle.script.proofs.cycle_rows.on_cycles.Statement.{statement}
 use Rattle.script.proofs.cycle_rows.on_cycles.Tie as tie

@@ -1,6 +1,6 @@
-use Rattle.controller.specs.Dma.{completeByte}
+use Rattle.transfer.specs.Dma.{completeByte}
 use Rattle.controller.specs.TickDma.{advance}
-use Rattle.controller.proofs.Pick.{when, unless}
+use Rattle.transfer.proofs.Pick.{when, unless}
 use borrow.Author.Needs.{needs}
 use Rattle.controller.proofs.reu.Reu.advance.Statement.{statement}
 use Rattle.controller.proofs.reu.Reu.advance.Tie as tie

@@ -1,5 +1,5 @@
 use Rattle.controller.specs.BusAction.{decide}
-use Rattle.controller.proofs.Pick.{when, unless}
+use Rattle.transfer.proofs.Pick.{when, unless}
 use borrow.Author.Tests.{eq-eqb, ne-eqb}
 use borrow.Author.Needs.{needs}
 use Rattle.controller.proofs.reu.Reu.decide.Statement.{statement}

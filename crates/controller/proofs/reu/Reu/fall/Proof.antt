@@ -1,5 +1,5 @@
 use Rattle.controller.specs.BusAction.{fall}
-use Rattle.controller.proofs.Pick.{when, unless}
+use Rattle.transfer.proofs.Pick.{when, unless}
 use borrow.Author.Needs.{needs}
 use Rattle.controller.proofs.reu.Reu.fall.Statement.{statement}
 use Rattle.controller.proofs.reu.Reu.fall.Tie as tie

@@ -1,5 +1,5 @@
 use Rattle.controller.specs.BusAction.{fallOnRead}
-use Rattle.controller.proofs.Pick.{when, unless}
+use Rattle.transfer.proofs.Pick.{when, unless}
 use borrow.Author.Needs.{needs}
 use Rattle.controller.proofs.reu.Reu.fall_on_read.Statement.{statement}
 use Rattle.controller.proofs.reu.Reu.fall_on_read.Tie as tie

@@ -1,5 +1,5 @@
 use Rattle.controller.specs.BusAction.{fallOnSwapWrite}
-use Rattle.controller.proofs.Pick.{when, unless}
+use Rattle.transfer.proofs.Pick.{when, unless}
 use borrow.Author.Needs.{needs}
 use Rattle.controller.proofs.reu.Reu.fall_on_swap_write.Statement.{statement}
 use Rattle.controller.proofs.reu.Reu.fall_on_swap_write.Tie as tie

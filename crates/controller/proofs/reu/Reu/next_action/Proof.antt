@@ -1,5 +1,5 @@
 use Rattle.controller.specs.BusAction.{nextAction}
-use Rattle.controller.proofs.Pick.{when, unless}
+use Rattle.transfer.proofs.Pick.{when, unless}
 use borrow.Author.Needs.{needs}
 use Rattle.controller.proofs.reu.Reu.next_action.Statement.{statement}
 use Rattle.controller.proofs.reu.Reu.next_action.Tie as tie

@@ -1,4 +1,4 @@
-use Rattle.controller.proofs.Pick.{when, unless}
+use Rattle.transfer.proofs.Pick.{when, unless}
 use mathlib.Core.Path.{refl}
 use Rattle.controller.proofs.reu.Reu.recalled.Statement.{statement}
 use Rattle.controller.proofs.reu.Reu.recalled.Tie as tie

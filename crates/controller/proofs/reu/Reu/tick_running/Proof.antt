@@ -1,4 +1,4 @@
-use Rattle.controller.proofs.Pick.{when, unless}
+use Rattle.transfer.proofs.Pick.{when, unless}
 use Rattle.controller.specs.TickDma.{tickRunning}
 use borrow.Author.Needs.{needs}
 use Rattle.controller.proofs.reu.Reu.tick_running.Statement.{statement}

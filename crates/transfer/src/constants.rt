@@ -1,0 +1,11 @@
+// The numbers of a transfer.
+
+pub(crate) const COMMAND_TRANSFER_TYPE_MASK: u8 = 0x03;
+
+pub const FULL_64K_TRANSFER_LENGTH: u32 = 65_536;
+
+// The first number that is no expansion address.
+pub const EXPANSION_ADDRESS_LIMIT: u32 = 0x0100_0000;
+
+// An access is answered as this times its kind, 1 for a read and 2 for a write, plus the address.
+pub(crate) const ACCESS_KIND: u32 = 65_536;
