@@ -26,13 +26,13 @@ use Rattle.controller.specs.Timing.{c64Access}
 use Rattle.transfer.specs.Timing.{actionForCycle}
 use Rattle.transfer.specs.Dma.{moved}
 use Rattle.controller.specs.FinishDma.{publishLiveCounters, finishDma, autoloaded, finishedStatus, finishedCommand, irqDue, updateIrq, counters}
-use Rattle.controller.specs.BusAction.{busAction, nextAction, rise, granted, decide, fall, plain, repeated}
+use Rattle.controller.specs.BusAction.{busAction, nextAction, granted, decide, fall, plain, repeated}
 use Rattle.controller.specs.TickDma.{Ticked, ticked, tickDma, tickOf, tickRunning, tickByType, tickSwap, swapRead, swapWrite, advance}
 use Rattle.controller.specs.Cycle.{runReuCycle, cycleBy}
 
 -- whoever unfolds this unfolds all that a cycle of a swap computes
 cycle-computed : Unit {0}
-unfolding runReuCycle cycleBy busAction nextAction rise decide fall plain actionForCycle c64Access repeated tickDma tickOf tickRunning tickByType tickSwap swapRead swapWrite advance publishLiveCounters
+unfolding runReuCycle cycleBy busAction nextAction decide fall plain actionForCycle c64Access repeated tickDma tickOf tickRunning tickByType tickSwap swapRead swapWrite advance publishLiveCounters
 cycle-computed = tt
 
 -- u with the fields that choose what a cycle does replaced

@@ -21,7 +21,7 @@ use Rattle.transfer.specs.Dma.{moved, typeOf, lengthOf}
 use Rattle.controller.specs.StartDma.{startDma, triggerFf00 as core-triggerFf00, requested}
 use Rattle.controller.specs.FinishDma.{publishLiveCounters, finishDma, autoloaded, updateIrq}
 use Rattle.controller.specs.Enable.{newReu, connected, setEnabled as core-setEnabled}
-use Rattle.controller.specs.BusAction.{busAction as core-busAction, nextAction, rise, decide, fall, fallOnRead, fallOnSwapWrite, plain, fallOnWrite, repeated}
+use Rattle.controller.specs.BusAction.{busAction as core-busAction, nextAction, decide, fall, fallOnRead, fallOnSwapWrite, plain, fallOnWrite, repeated}
 use Rattle.controller.specs.TickDma.{tickDma as core-tickDma, tickOf, tickRunning, tickByType, tickStore, tickRecall, tickSwap, tickVerify, tickTail, swapRead, swapWrite, tickRefresh, advance, withError}
 use Rattle.controller.specs.Cycle.{runReuCycle, cycleBy}
 use Rattle.controller.specs.Calls.{readCall}
@@ -183,7 +183,7 @@ module _ (m s : List ℕ) (mem : Memories m s) where
 
 -- whoever unfolds this unfolds all that a session computes
 calls-computed : Unit {0}
-unfolding runReuCycle cycleBy core-busAction nextAction rise decide fall fallOnRead fallOnSwapWrite plain fallOnWrite actionForCycle core-c64Access repeated core-tickDma tickOf tickRunning tickByType tickStore tickRecall tickSwap tickVerify tickTail swapRead swapWrite tickRefresh advance publishLiveCounters readRegister writeRegister writeCommand core-debugRegister startDma core-triggerFf00 requested typeOf lengthOf finishDma autoloaded updateIrq
+unfolding runReuCycle cycleBy core-busAction nextAction decide fall fallOnRead fallOnSwapWrite plain fallOnWrite actionForCycle core-c64Access repeated core-tickDma tickOf tickRunning tickByType tickStore tickRecall tickSwap tickVerify tickTail swapRead swapWrite tickRefresh advance publishLiveCounters readRegister writeRegister writeCommand core-debugRegister startDma core-triggerFf00 requested typeOf lengthOf finishDma autoloaded updateIrq
 calls-computed = tt
 
 -- two bytes stored, at the last place and at the first

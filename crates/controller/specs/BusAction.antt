@@ -55,21 +55,19 @@ decide u high falling late =
     (cond (eqb (u .«swap_read_delay») 0) (cond falling (fall u late) (plain u high))
     (granted (cond (eqb (u .«swap_read_delay») 1) Transfer Hold) (withDelay u (u .«swap_read_delay» - 1))))
 
--- BA rises: the write is given up where it resumes, and then the cycle is decided
-unfoldable pub rise : Reu → Bool → ℕ → BusAnswer
-rise u late cycle =
-    cond (resumes (u .dma) cycle)
-    (let answer = decide (withDma u (readAgain (u .dma))) true false late in
-    grants (answer .action) (answer .reu) (restored (u .dma)))
-    (decide u true false late)
+-- a write half that is given up: the read half comes next
+abbrev pub resumed : Reu → Bool → Reu
+resumed u resumes = cond resumes (withDma u (readAgain (u .dma))) u
 
--- BA's level at PHI1 rises or falls against the cycle before; a late fall was announced by `ba_high` alone
+-- BA's level at PHI1 rises or falls against the cycle before; a late fall was announced by `ba_high` alone. Where a rise gives a write up,
+-- that is what is written: nothing falls then
 unfoldable pub nextAction : Reu → Bool → Bool → ℕ → BusAnswer
 nextAction u high phi1 cycle =
     let falling = u .«ba_was_high» && not phi1 in
-    let now = withHistory u phi1 (phi1 && not high) in
-    cond (not (u .«ba_was_high») && phi1) (rise now (u .«late_ba_fall») cycle)
-    (decide (repeated now falling) phi1 falling (u .«late_ba_fall»))
+    let resume = not (u .«ba_was_high») && (phi1 && resumes (u .dma) cycle) in
+    let now = resumed (withHistory u phi1 (phi1 && not high)) resume in
+    let answer = decide (repeated now falling) phi1 falling (u .«late_ba_fall») in
+    grants (answer .action) (answer .reu) (cond resume (restored (u .dma)) (answer .put))
 
 -- the grant and the controller, with the storage
 abbrev pub Granted : Type 0

@@ -1,6 +1,6 @@
 // The grant of a cycle: BA's edges, the terminal pair, the delay, then the plain rule.
 ghost use mathlib.Core.Path.{_≡_};
-ghost use Rattle.controller.specs.BusAction.{cpuReadyAfterDma, decide, fall, fallOnRead, fallOnSwapWrite, fallOnWrite, granted, nextAction, plain, repeated, rise};
+ghost use Rattle.controller.specs.BusAction.{cpuReadyAfterDma, decide, fall, fallOnRead, fallOnSwapWrite, fallOnWrite, granted, nextAction, plain, repeated, resumed};
 ghost use Rattle.controller.specs.Timing.{c64Access};
 use crate::constants::COMMAND;
 use crate::constants::COMMAND_FF00_DISABLE;
@@ -141,33 +141,39 @@ impl Reu {
         self.granted(hold)
     }
 
-    // BA rises.
-    fn rise(self, late: bool, cycle: u64) -> BusAnswer
-        ensures { λ r. ⌜ r ≡ rise self late cycle ⌝ }
+    // Where the write half is given up, the read half comes next.
+    fn resumed(self, resumes: bool) -> Reu
+        ensures { λ r. ⌜ r ≡ resumed self resumes ⌝ }
     {
-        let dma = self.dma;
-        if dma.resumes(cycle) {
-            let put = dma.restored();
-            let out = self.with_dma(dma.read_again()).decide(true, false, late);
-            let action = out.action;
-            let reu = out.reu;
-            return BusAnswer { action, reu, put };
+        if resumes {
+            let dma = self.dma;
+            return self.with_dma(dma.read_again());
         }
-        self.decide(true, false, late)
+        self
     }
 
     pub(crate) fn next_action(self, ba_high: bool, ba_high_phi1: bool, cycle: u64) -> BusAnswer
         ensures { λ r. ⌜ r ≡ nextAction self «ba_high» «ba_high_phi1» cycle ⌝ }
     {
+        let dma = self.dma;
         let falling = self.ba_was_high & !ba_high_phi1;
+        let resumes = !self.ba_was_high & (ba_high_phi1 & dma.resumes(cycle));
         let late = self.late_ba_fall;
         let mut reu = self;
         reu.late_ba_fall = ba_high_phi1 & !ba_high;
         reu.ba_was_high = ba_high_phi1;
-        if !self.ba_was_high & ba_high_phi1 {
-            return reu.rise(late, cycle);
+        let out = reu.resumed(resumes)
+            .repeat(falling)
+            .decide(ba_high_phi1, falling, late);
+        let action = out.action;
+        let after = out.reu;
+        let asked = out.put;
+        let put = dma.restored_or(resumes, asked);
+        BusAnswer {
+            action,
+            reu: after,
+            put,
         }
-        reu.repeat(falling).decide(ba_high_phi1, falling, late)
     }
 
     // The release is used up, whatever BA is.

@@ -37,7 +37,7 @@ use Rattle.transfer.specs.Dma.{isType, lengthOf, moved, firstByte, lastByte}
 use Rattle.controller.specs.StartDma.{requested, startDma, triggerFf00}
 use Rattle.controller.specs.FinishDma.{updateIrq, irqDue, publishLiveCounters, finishedStatus, finishedCommand, autoloaded, finishDma}
 use Rattle.controller.specs.Enable.{fresh, setEnabled}
-use Rattle.controller.specs.BusAction.{repeated, plain, fallOnRead, fallOnSwapWrite, fallOnWrite, fall, decide, rise, nextAction, busAction}
+use Rattle.controller.specs.BusAction.{repeated, plain, fallOnRead, fallOnSwapWrite, fallOnWrite, fall, decide, resumed, nextAction, busAction}
 use Rattle.transfer.specs.Timing.{readAgain, restored, resumes, swapReads, swapWrites}
 use Rattle.controller.specs.TickDma.{advance, tickStore, tickRecall, recalled, swapRead, swapWrite, tickSwap, differs, withError, tickVerify, tickByType, tickRefresh, tickTail, tickRunning, tickOf, tickDma}
 use Rattle.transfer.specs.Dma.{seenBy}
@@ -190,21 +190,16 @@ module _ (u : Reu) (s : Sound u) where
       (λ _. by-test SoundGrant (eqb (u .«swap_read_delay») 0) _ _ (λ _. by-test SoundGrant falling _ _ (λ _. on-fall late) (λ _. grant s tt))
       (λ _. grant (with-delay s (omega (arith, s .delay))) tt))
 
-sound-rise : (u : Reu) (late : Bool) (cycle : ℕ) → Sound u → SoundGrant (rise u late cycle)
-unfolding rise
-sound-rise u late cycle s =
-    let g = again (u .attached) (u .dma) (s .dma) in
-    by-test SoundGrant (resumes (u .dma) cycle) _ _
-    (λ _. grant (sound-decide (withDma u (readAgain (u .dma))) (with-dma s (g .0)) true false late .sound) (g .1))
-    (λ _. sound-decide u s true false late)
-
 pub sound-next : (u : Reu) (high phi1 : Bool) (cycle : ℕ) → Sound u → SoundGrant (nextAction u high phi1 cycle)
 unfolding nextAction repeated
 sound-next u high phi1 cycle s =
     let falling = u .«ba_was_high» && not phi1 in
+    let resume = not (u .«ba_was_high») && (phi1 && resumes (u .dma) cycle) in
     let now = withHistory u phi1 (phi1 && not high) in
-    by-test SoundGrant (not (u .«ba_was_high») && phi1) _ _ (λ _. sound-rise now (u .«late_ba_fall») cycle s)
-    (λ _. sound-decide (repeated now falling) s phi1 falling (u .«late_ba_fall»))
+    let g = again (u .attached) (u .dma) (s .dma) in
+    let ready : Sound (resumed now resume) = by-test Sound resume (withDma now (readAgain (u .dma))) now (λ _. with-dma s (g .0)) (λ _. s) in
+    let decided = sound-decide (repeated (resumed now resume) falling) ready phi1 falling (u .«late_ba_fall») in
+    grant (decided .sound) (by-test FitsPut resume (restored (u .dma)) _ (λ _. g .1) (λ _. decided .put))
 
 -- ---- a tick
 

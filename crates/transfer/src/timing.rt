@@ -1,5 +1,6 @@
 // The grant of a cycle, and the C64 side's next access.
 ghost use mathlib.Core.Path.{_≡_};
+ghost use mathlib.Core.Bool.{cond};
 ghost use Rattle.transfer.specs.Timing.{accessByType, accessNumber, accessOf, actionForCycle, actionNumber, readAgain, reads, recallStarts, restored, resumes, swapReads, swapWrites, writes};
 ghost use Rattle.transfer.specs.Dma.{runs};
 use crate::constants::ACCESS_KIND;
@@ -205,5 +206,15 @@ impl Dma {
                 Put::Storage(addr, d.latch)
             }
         }
+    }
+
+    // What a grant writes: the byte, where the write half is given up, or what was to be written.
+    pub fn restored_or(self, resumes: bool, put: Put) -> Put
+        ensures { λ r. ⌜ r ≡ cond resumes (restored self) put ⌝ }
+    {
+        if resumes {
+            return self.restored();
+        }
+        put
     }
 }

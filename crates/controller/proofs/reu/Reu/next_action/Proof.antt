@@ -1,5 +1,4 @@
 use Rattle.controller.specs.BusAction.{nextAction}
-use Rattle.transfer.proofs.Pick.{when, unless}
 use borrow.Author.Needs.{needs}
 use Rattle.controller.proofs.reu.Reu.next_action.Statement.{statement}
 use Rattle.controller.proofs.reu.Reu.next_action.Tie as tie
@@ -7,17 +6,14 @@ use Rattle.controller.proofs.reu.Reu.next_action.Tie as tie
 returns : tie.Need-returns
 unfolding nextAction
 returns c =
-    let its-if1 = c .before .if1 in
-    when _ (its-if1 .taken) (c .rise .ensures)
-
-returns-2 : tie.Need-returns-2
-unfolding nextAction
-returns-2 c =
-    let its-repeat = c .before .repeat in
-    let its-if1 = c .before .before .if1 in
-    unless _ (its-if1 .left) (rw (c .decide .ensures, its-repeat .ensures))
+    let its-decide = c .before .before .decide in
+    let its-repeat = c .before .before .before .repeat in
+    let its-resumed = c .before .before .before .before .resumed in
+    let its-resumes = c .before .before .before .before .before .resumes in
+    rw (c .restored-or .ensures, its-decide .ensures, its-repeat .ensures, its-resumed .ensures, its-resumes .ensures)
 
 pub next-action-spec : {M : Type 1} → statement M
 next-action-spec =
     tie.close
-    (tie.spec (λ c κs. search needs) returns (λ c κs. search needs) (λ c κs. search needs) returns-2)
+    (tie.spec (λ c κs. search needs) (λ c κs. search needs) (λ c κs. search needs) (λ c κs. search needs)
+    (λ c κs. search needs) returns)
