@@ -7,6 +7,7 @@ use native.Mathlib.Omega.{arith}
 use lib.Dec.{eqb}
 use lib.ListN.{length, replicate}
 use borrow.Author.Tests.{eqb-false, le-ltb, ne-eqb}
+use Rattle.image.specs.Layout.{imageSize}
 use Rattle.controller.specs.declared.reu.Answer.{Answer}
 use Rattle.controller.specs.declared.reu.Reu.{Reu}
 use Rattle.controller.specs.Calls.{busActionCall, cycleCall}
@@ -41,13 +42,13 @@ module _ (m : List ℕ) (hm : length m ≡ busSize) (s : List ℕ) (high number 
     by-image false e = refl
     by-image true e = opened _ e ∙ ap (λ (x : Answer × List ℕ × List ℕ). changedBoth x i) (asked-first m hm s (flag high) (flag phi1) number (flag low) u) ∙ sym (opened s e)
 
-    by-copy : (b : Bool) → cycle (reuBusAction (cond b i (replicate 34 255)) s high phi1 number .2) ≡ cycle s
+    by-copy : (b : Bool) → cycle (reuBusAction (cond b i (replicate imageSize 255)) s high phi1 number .2) ≡ cycle s
     unfolding changeStorage checked openImage imageOk bytesOk
     by-copy true = by-image (eqb n 0) refl
     by-copy false = refl
 
     pub asking-changes-nothing : cycle (reuBusAction (copyOf i) s high phi1 number .2) ≡ cycle s
-    asking-changes-nothing = by-copy (eqb (length i) 34)
+    asking-changes-nothing = by-copy (eqb (length i) imageSize)
 
 -- a bus of another length: the cycle is refused
 module _ (m : List ℕ) (other : length m ≡ busSize → ⊥) (i s : List ℕ) (high number low phi1 : ℕ) where

@@ -5,6 +5,7 @@ use mathlib.Core.Bool.{true, false}
 use mathlib.Core.List.{List, [], _∷_, _++_}
 use Prim.Native.Nat.{ℕ}
 use lib.ListN.{replicate}
+use Rattle.image.specs.Layout.{imageSize}
 use Rattle.controller.specs.Refusals.{checked}
 use Rattle.image.specs.Open.{bytesOk, imageOk, openImage}
 use Rattle.reu.specs.Exports.{change, look}
@@ -82,7 +83,7 @@ agrees = refl
 -- ---- an image that no controller is: ones alone are out of range
 
 unfoldable bad : List ℕ
-bad = replicate 34 255
+bad = replicate imageSize 255
 
 -- cycle 5, with BA high
 unfoldable fifth : Clock

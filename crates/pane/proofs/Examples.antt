@@ -8,7 +8,7 @@ use Rattle.pane.specs.Faults.{faultOf, faultsFrom, faultsOf}
 use Rattle.controller.specs.Calls.{dmaActiveCall}
 use Rattle.transfer.specs.Dma.{typeOf}
 use Rattle.controller.specs.Refusals.{checked, refusalOf, wellFormed}
-use Rattle.image.specs.Layout.{reuAt}
+use Rattle.image.specs.Layout.{imageSize, reuAt}
 use Rattle.image.specs.Open.{bytesOk, imageOk, openImage}
 use Rattle.reu.specs.Exports.{code, look, reuDmaActive}
 use Rattle.pane.specs.Rows.{copyOf, flagsRow, heldRow, refusedRow, rowOf, runningRow, transferRow}
@@ -100,7 +100,7 @@ too-short : reuDmaActive (replicate 33 0) ≡ 16777216
 unfolding look checked openImage
 too-short = refl
 
-out-of-range : reuDmaActive (replicate 34 255) ≡ 33554432
+out-of-range : reuDmaActive (replicate imageSize 255) ≡ 33554432
 unfolding look checked openImage imageOk bytesOk
 out-of-range = refl
 
@@ -118,11 +118,11 @@ refused-short : rowOf (replicate 33 0) 21 ≡ ascii "image        refused by 1: 
 unfolding rowOf refusedRow decimalUpTo _⊕_
 refused-short = rw too-short
 
-refused-range : rowOf (replicate 34 255) 21 ≡ ascii "image        refused by 2: no controller"
+refused-range : rowOf (replicate imageSize 255) 21 ≡ ascii "image        refused by 2: no controller"
 unfolding rowOf refusedRow decimalUpTo _⊕_
 refused-range = rw out-of-range
 
-no-register : rowOf (replicate 34 255) 0 ≡ []
+no-register : rowOf (replicate imageSize 255) 0 ≡ []
 unfolding rowOf refusedRow
 no-register = rw out-of-range
 

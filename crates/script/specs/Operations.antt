@@ -6,6 +6,7 @@ use mathlib.Core.List.{List}
 use lib.Dec.{eqb, ltb}
 use lib.ListN.{length, getD, set}
 use Rattle.transfer.specs.Bytes.{bit, bitOf}
+use Rattle.image.specs.Layout.{placeOf as imagePlace, flags}
 use Rattle.reu.specs.Exports.{refusalUnit, reuBusAction, reuCycle, reuDebugRegister, reuNew, reuRead, reuReset, reuSetEnabled, reuTickDma, reuTriggerFf00, reuWrite}
 use Rattle.script.specs.Rows.{operationOf, placeOf, valueOf}
 
@@ -57,9 +58,9 @@ isShown a v i = eqb (reuDebugRegister i a) v
 abbrev pub isPairShown : ℕ → ℕ → List ℕ → Bool
 isPairShown a v i = isShown a (v % 256) i && isShown (a + 1) (v / 256) i
 
--- the interrupt level is bit 1 of the image's byte 18
+-- the interrupt level is bit 1 of the image's flags
 unfoldable pub isLevel : ℕ → List ℕ → Bool
-isLevel v i = ltb 18 (length i) && eqb (bitOf (bit (getD i 18 0) 1)) v
+isLevel v i = ltb (imagePlace flags) (length i) && eqb (bitOf (bit (getD i (imagePlace flags) 0) 1)) v
 
 -- new, reset and FF00; writes of a byte, a pair and the expansion address; what is read, shown, shown as a pair; the level
 unfoldable pub controllerRow : ℕ → ℕ → ℕ → List ℕ → OnOne

@@ -1,5 +1,6 @@
 // Rows on the controller alone. A place has 24 bits.
 use crate::operations;
+use image::layout;
 ghost use mathlib.Core.Path.{_≡_};
 ghost use Prim.Native.Nat.{_<_};
 ghost use Rattle.script.specs.Operations.{controllerRow, expansionRow, isLevel, readsRow, isShown, isPairShown, writePairRow, writeRow};
@@ -56,8 +57,8 @@ fn shows_pair(image: &[u8], index: u32, value: u32) -> bool
 fn level_is(image: &[u8], value: u32) -> bool
     ensures { λ r. ⌜ r ≡ isLevel value (now (image .entry)) ⌝ }
 {
-    if 18 < image.len() {
-        return (image[18] / 2 % 2) as u32 == value;
+    if layout::FLAGS < image.len() {
+        return (image[layout::FLAGS] / 2 % 2) as u32 == value;
     }
     false
 }

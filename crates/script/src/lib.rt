@@ -91,7 +91,7 @@ pub const BANK_IS: u64 = SHOWS + 6 * AT;
 
 pub const LENGTH_IS: u64 = SHOWS_PAIR + 7 * AT;
 
-// The interrupt level: bit 1 of the image's byte 18.
+// The interrupt level: bit 1 of the image's flags.
 pub const LEVEL_IS: u64 = operations::LEVEL_IS * OPERATION;
 
 // ---- operations on what the host lends

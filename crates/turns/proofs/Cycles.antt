@@ -7,6 +7,7 @@ use native.Mathlib.Omega.{arith}
 use lib.Dec.{eqb, ltb}
 use lib.ListN.{length}
 use borrow.Author.Tests.{eq-eqb, eqb-false, eqb-true, le-ltb, lt-ltb, ltb-true}
+use Rattle.image.specs.Layout.{imageSize}
 use Rattle.controller.specs.declared.reu.Answer.{Answer}
 use Rattle.controller.specs.declared.reu.Reu.{Reu}
 use Rattle.transfer.specs.Bytes.{bit, bitOf}
@@ -78,7 +79,7 @@ module _ (i m s : List ℕ) (high number low phi1 : ℕ) where
 
 -- an image that opens is its own copy
 copied : (i : List ℕ) → openImage i .refusal ≡ 0 → i ≡ copyOf i
-copied i z = rw (eq-eqb (length i) 34 (opened-long i z))
+copied i z = rw (eq-eqb (length i) imageSize (opened-long i z))
 
 module _ (inputs number : ℕ) (i m s : List ℕ) where
   abbrev input : ℕ → ℕ

@@ -1,4 +1,5 @@
 use borrow.Author.Tests.{lt-ltb, le-ltb}
+use Rattle.image.specs.Layout.{placeOf, flags}
 use Rattle.script.specs.Operations.{isLevel}
 use lib.ListN.{getD}
 use Rattle.transfer.proofs.Bits.{bit-digit}
@@ -10,11 +11,11 @@ returns : tie.Need-returns
 unfolding isLevel
 returns c =
     let its-args = c .before .before .args in
-    rw (lt-ltb 18 _ (c .before .if1 .taken), bit-digit (getD (its-args .image .now) 18 0) 1)
+    rw (lt-ltb (placeOf flags) _ (c .before .if1 .taken), bit-digit (getD (its-args .image .now) (placeOf flags) 0) 1)
 
 returns-2 : tie.Need-returns-2
 unfolding isLevel
-returns-2 c = rw (le-ltb 18 _ (c .if1 .left))
+returns-2 c = rw (le-ltb (placeOf flags) _ (c .if1 .left))
 
 pub level-is-spec : {M : Type 1} → statement M
 level-is-spec = tie.close (tie.spec (λ c. search needs) (λ c. search needs) returns returns-2)
