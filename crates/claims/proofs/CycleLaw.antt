@@ -20,12 +20,13 @@ use Rattle.transfer.specs.declared.dma.SwapPhase.the-variants.{ReadC64, WriteC6
 use Rattle.transfer.specs.declared.timing.ReuBusAction.{ReuBusAction}
 use Rattle.transfer.specs.declared.timing.ReuBusAction.the-variants.{Cpu, Hold, Transfer}
 use Rattle.transfer.specs.Bytes.{bit}
-use Rattle.controller.specs.Reu.{reuOf, reg, withRegs, withRelease, withRepeat, withDelay, withHistory, withDma}
+use Rattle.controller.specs.Reu.{reuOf, reg, withRelease, withRepeat, withDelay, withHistory, withDma}
 use Rattle.transfer.specs.Memory.{putStorage}
 use Rattle.controller.specs.Timing.{c64Access}
 use Rattle.transfer.specs.Timing.{actionForCycle}
 use Rattle.transfer.specs.Dma.{moved}
-use Rattle.controller.specs.FinishDma.{publishLiveCounters, finishDma, autoloaded, finishedStatus, finishedCommand, irqDue, updateIrq, counters}
+use Rattle.regs.specs.FinishDma.{irqDue, counters, finishedStatus, finished, autoloaded}
+use Rattle.controller.specs.FinishDma.{publishLiveCounters, finishDma, updateIrq}
 use Rattle.controller.specs.BusAction.{busAction, nextAction, granted, decide, fall, plain, repeated}
 use Rattle.controller.specs.TickDma.{Ticked, ticked, tickDma, tickOf, tickRunning, tickByType, tickSwap, swapRead, swapWrite, advance}
 use Rattle.controller.specs.Cycle.{runReuCycle, cycleBy}
@@ -202,21 +203,15 @@ status-length : (l : List ℕ) (done : Bool) → length (finishedStatus l done) 
 status-length l true = simp length-set
 status-length l false = refl
 
--- the registers when a command ends, before Autoload, and before the interrupt
-abbrev finished : Reu → Bool → List ℕ
-finished u done = finishedCommand (finishedStatus (u .regs) done)
-
+-- the registers when a command ends, before the interrupt
 abbrev loaded : Reu → DmaState → Bool → List ℕ
-loaded u d done = cond (d .autoload) (counters (finished u done) (u .«shadow_c64_addr») (u .«shadow_reu_addr») (u .«shadow_len»)) (finished u done)
+loaded u d done = autoloaded (finished (u .regs) done) (d .autoload) (u .«shadow_c64_addr») (u .«shadow_reu_addr») (u .«shadow_len»)
 
-abbrev before : Reu → DmaState → Bool → Reu
-before u d done = withDma (withRegs u (loaded u d done)) Idle
-
-finish-other : (u : Reu) (d : DmaState) (done : Bool) (i : ℕ) → i ≢ 0 → (i < 2) ⊎ (8 < i) → reg (finishDma u d done) i ≡ getD (finished u done) i 0
-unfolding finishDma updateIrq autoloaded
+finish-other : (u : Reu) (d : DmaState) (done : Bool) (i : ℕ) → i ≢ 0 → (i < 2) ⊎ (8 < i) → reg (finishDma u d done) i ≡ getD (finished (u .regs) done) i 0
+unfolding finishDma updateIrq
 finish-other u d done i h k =
-    irq-list (loaded u d done) (bitOr (getD (loaded u d done) 0 0) 128) (irqDue (before u d done)) i h
-    ∙ auto-list (finished u done) (u .«shadow_c64_addr») (u .«shadow_reu_addr») (u .«shadow_len») (d .autoload) i k
+    irq-list (loaded u d done) (bitOr (getD (loaded u d done) 0 0) 128) (irqDue (loaded u d done)) i h
+    ∙ auto-list (finished (u .regs) done) (u .«shadow_c64_addr») (u .«shadow_reu_addr») (u .«shadow_len») (d .autoload) i k
 
 finish-command : (u : Reu) (d : DmaState) (done : Bool) → 1 < length (u .regs)
     → reg (finishDma u d done) 1 ≡ bitOr (bitAnd (reg u 1) 127) 16
@@ -233,7 +228,7 @@ finish-control u d done =
 
 finish-quiet : (u : Reu) (d : DmaState) (done : Bool) → u .«terminal_swap_write» ≡ false → u .«swap_read_delay» ≡ 0
     → u .attached ≡ true → Quiet (finishDma u d done)
-unfolding finishDma updateIrq autoloaded
+unfolding finishDma updateIrq
 finish-quiet u d done t w a = record { terminal = t; delay = w; attached = a; idle = refl }
 
 counters-length : (l : List ℕ) (c e n : ℕ) → length (counters l c e n) ≡ length l

@@ -21,9 +21,11 @@ use Rattle.transfer.specs.declared.dma.SwapPhase.the-variants.{ReadC64}
 use Rattle.transfer.specs.Bytes.{bit, word, long, withLow, withHigh, withBank}
 use Rattle.transfer.proofs.Bits.{zero-bit}
 use Rattle.controller.specs.Reu.{reg, setReg, withIrq, withArmed, withDma, cleared}
-use Rattle.controller.specs.Registers.{shown, writeAt, writeC64, writeExp, writeLen, readRegister, writeRegister, writeCommand}
+use Rattle.regs.specs.Registers.{shown}
+use Rattle.regs.specs.StartDma.{requested}
+use Rattle.controller.specs.Registers.{writeAt, writeC64, writeExp, writeLen, readRegister, writeRegister, writeCommand}
 use Rattle.transfer.specs.Dma.{typeOf, lengthOf}
-use Rattle.controller.specs.StartDma.{requested, startDma}
+use Rattle.controller.specs.StartDma.{startDma}
 use Rattle.claims.proofs.CycleLaw.{Reading, Kept, Quiet, swapState}
 
 -- ---- tests and indices
@@ -67,7 +69,7 @@ module _ (u : Reu) (v : ℕ) (len : length (u .regs) ≡ 11) (att : u .attached 
   other-is : (i : ℕ) → i ≢ 1 → reg (setReg u 1 v) i ≡ reg u i
   other-is i h = getD-set-other (u .regs) 1 i v 0 h
 
-  requested-is : requested (setReg u 1 v)
+  requested-is : requested (setReg u 1 v .regs)
       ≡ swapState ReadC64 (word (reg u 2) (reg u 3)) (long (reg u 4) (reg u 5) (reg u 6)) (lengthOf (word (reg u 7) (reg u 8))) 0 (bit (reg (setReg u 1 v) 1) 5) true false
   unfolding asked requested typeOf
   requested-is =
@@ -92,7 +94,7 @@ module _ (u : Reu) (v : ℕ) (len : length (u .regs) ≡ 11) (att : u .attached 
           ∙ zero-bit (reg u 10) 6 (omega arith)
 
   started-as : Reu
-  started-as = withDma (withIrq (setReg (cleared (setReg u 1 v)) 0 (bitAnd (reg (setReg u 1 v) 0) 16)) false) (Running (requested (setReg u 1 v)))
+  started-as = withDma (withIrq (setReg (cleared (setReg u 1 v)) 0 (bitAnd (reg (setReg u 1 v) 0) 16)) false) (Running (requested (setReg u 1 v .regs)))
 
   command-starts : writeCommand u v ≡ started-as
   unfolding started-as writeCommand startDma requested

@@ -18,8 +18,9 @@ use Rattle.controller.specs.Registers.{readRegister, writeRegister, writeComman
 use Rattle.controller.specs.Timing.{c64Access as core-c64Access}
 use Rattle.transfer.specs.Timing.{actionForCycle}
 use Rattle.transfer.specs.Dma.{moved, typeOf, lengthOf}
-use Rattle.controller.specs.StartDma.{startDma, triggerFf00 as core-triggerFf00, requested}
-use Rattle.controller.specs.FinishDma.{publishLiveCounters, finishDma, autoloaded, updateIrq}
+use Rattle.regs.specs.StartDma.{requested}
+use Rattle.controller.specs.StartDma.{startDma, triggerFf00 as core-triggerFf00}
+use Rattle.controller.specs.FinishDma.{publishLiveCounters, finishDma, updateIrq}
 use Rattle.controller.specs.Enable.{newReu, connected, setEnabled as core-setEnabled}
 use Rattle.controller.specs.BusAction.{busAction as core-busAction, nextAction, decide, fall, fallOnRead, fallOnSwapWrite, plain, fallOnWrite, repeated}
 use Rattle.controller.specs.TickDma.{tickDma as core-tickDma, tickOf, tickRunning, tickByType, tickStore, tickRecall, tickSwap, tickVerify, tickTail, swapRead, swapWrite, tickRefresh, advance, withError}
@@ -183,7 +184,7 @@ module _ (m s : List ℕ) (mem : Memories m s) where
 
 -- whoever unfolds this unfolds all that a session computes
 calls-computed : Unit {0}
-unfolding runReuCycle cycleBy core-busAction nextAction decide fall fallOnRead fallOnSwapWrite plain fallOnWrite actionForCycle core-c64Access repeated core-tickDma tickOf tickRunning tickByType tickStore tickRecall tickSwap tickVerify tickTail swapRead swapWrite tickRefresh advance publishLiveCounters readRegister writeRegister writeCommand core-debugRegister startDma core-triggerFf00 requested typeOf lengthOf finishDma autoloaded updateIrq
+unfolding runReuCycle cycleBy core-busAction nextAction decide fall fallOnRead fallOnSwapWrite plain fallOnWrite actionForCycle core-c64Access repeated core-tickDma tickOf tickRunning tickByType tickStore tickRecall tickSwap tickVerify tickTail swapRead swapWrite tickRefresh advance publishLiveCounters readRegister writeRegister writeCommand core-debugRegister startDma core-triggerFf00 requested typeOf lengthOf finishDma updateIrq
 calls-computed = tt
 
 -- two bytes stored, at the last place and at the first
@@ -199,10 +200,10 @@ asked : ℕ → Reu
 asked n = to (begin 0 0 n 0x93) (start [] []) .u
 
 compared : ℕ → Bool → TickAnswer
-compared n equal = advance (withError (asked n) (not equal)) (requested (asked n)) (not equal) false Nothing
+compared n equal = advance (withError (asked n) (not equal)) (requested (asked n .regs)) (not equal) false Nothing
 
 tailed : Bool → Reu
-tailed equal = finishDma (compared 2 false .reu) (withTail (moved (requested (asked 2))) true) (not (not equal))
+tailed equal = finishDma (compared 2 false .reu) (withTail (moved (requested (asked 2 .regs))) true) (not (not equal))
 
 module _ (m s : List ℕ) (ne : getD m 0 0 ≢ getD s 0 0) where
   one-differs : to (begin 0 0 3 0x93 ++ ticks 1) (start m s) .u ≡ compared 3 false .reu

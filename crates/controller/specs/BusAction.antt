@@ -64,7 +64,7 @@ resumed u resumes = cond resumes (withDma u (readAgain (u .dma))) u
 unfoldable pub nextAction : Reu → Bool → Bool → ℕ → BusAnswer
 nextAction u high phi1 cycle =
     let falling = u .«ba_was_high» && not phi1 in
-    let resume = not (u .«ba_was_high») && (phi1 && resumes (u .dma) cycle) in
+    let resume = resumes (u .dma) (not (u .«ba_was_high») && phi1) cycle in
     let now = resumed (withHistory u phi1 (phi1 && not high)) resume in
     let answer = decide (repeated now falling) phi1 falling (u .«late_ba_fall») in
     grants (answer .action) (answer .reu) (cond resume (restored (u .dma)) (answer .put))

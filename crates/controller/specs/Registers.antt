@@ -1,33 +1,20 @@
 -- The register record: what a read gives and does, what a write does, in the terms of the public register descriptions.
-use Rattle.controller.specs.Prelude.{ℕ, Bool, true, false, cond, [], _∷_, bitAnd, eqb, ltb, set, Reu, ReadAnswer}
-use Rattle.transfer.specs.Constants.{status, command, c64Low, c64High, expLow, expHigh, expBank, lengthLow, lengthHigh, interruptMask, addressControl, registerCount, unusedRegister, verifyError, endOfBlock, interrupt, withoutFf00, execute, bankOnes, maskOnes, controlOnes}
-use Rattle.transfer.specs.Bytes.{bit, setBits, clearBits, lowByte, highByte, withLow, withHigh, withBank}
+use Rattle.controller.specs.Prelude.{ℕ, true, false, cond, eqb, ltb, set, Reu, ReadAnswer}
+use Rattle.transfer.specs.Constants.{status, command, c64Low, c64High, expLow, expHigh, expBank, lengthLow, lengthHigh, interruptMask, addressControl, registerCount, unusedRegister, withoutFf00, execute}
+use Rattle.transfer.specs.Bytes.{bit, lowByte, highByte, withLow, withHigh, withBank}
+use Rattle.regs.specs.Registers.{registerIndex, shown, acknowledged}
 use Rattle.controller.specs.Reu.{reg, setReg, withRegs, withIrq, withArmed, withShadows}
 use Rattle.controller.specs.StartDma.{startDma}
 use Rattle.controller.specs.FinishDma.{updateIrq}
 
--- "Index = address AND $1F"
-abbrev pub registerIndex : ℕ → ℕ
-registerIndex addr = bitAnd addr 31
-
 -- ---- read
 
--- the byte that a read of register i gives: some bits of the bank, the mask and the control are always 1
-abbrev pub shown : ℕ → ℕ → ℕ
-shown i v =
-    cond (eqb i expBank) (setBits bankOnes v)
-    (cond (eqb i interruptMask) (setBits maskOnes v)
-    (cond (eqb i addressControl) (setBits controlOnes v) v))
-
 -- "A read returns the old byte, then bits 5, 6 and 7 of STATUS are cleared and the interrupt level falls"
-abbrev pub acknowledged : Reu → Reu
-acknowledged u = withIrq (setReg u status (clearBits (verifyError ∷ endOfBlock ∷ interrupt ∷ []) (reg u status))) false
-
 abbrev pub readAt : Reu → ℕ → ReadAnswer
 readAt u i =
     cond (ltb i registerCount)
     (cond (eqb i status)
-    (record { value = reg u status; reu = acknowledged u })
+    (record { value = reg u status; reu = withIrq (setReg u status (acknowledged (reg u status))) false })
     (record { value = shown i (reg u i); reu = u }))
     (record { value = unusedRegister; reu = u })
 
@@ -69,11 +56,11 @@ writeAt u i v =
     (cond (eqb i c64High) (writeC64 u (withHigh (u .«shadow_c64_addr») v))
     (cond (eqb i expLow) (writeExp u (withLow (u .«shadow_reu_addr») v))
     (cond (eqb i expHigh) (writeExp u (withHigh (u .«shadow_reu_addr») v))
-    (cond (eqb i expBank) (writeBank u (setBits bankOnes v))
+    (cond (eqb i expBank) (writeBank u (shown expBank v))
     (cond (eqb i lengthLow) (writeLen u (withLow (u .«shadow_len») v))
     (cond (eqb i lengthHigh) (writeLen u (withHigh (u .«shadow_len») v))
-    (cond (eqb i interruptMask) (updateIrq (setReg u interruptMask (setBits maskOnes v)))
-    (cond (eqb i addressControl) (setReg u addressControl (setBits controlOnes v)) u)))))))))
+    (cond (eqb i interruptMask) (updateIrq (setReg u interruptMask (shown interruptMask v)))
+    (cond (eqb i addressControl) (setReg u addressControl (shown addressControl v)) u)))))))))
 
 unfoldable pub writeRegister : Reu → ℕ → ℕ → Reu
 writeRegister u addr v = writeAt u (registerIndex addr) v

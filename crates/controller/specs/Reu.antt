@@ -1,10 +1,11 @@
--- The controller record's fields, and a controller or a transfer with some of them replaced. There is no record update, so a maker has a
+-- The controller record's fields, and a controller with some of them replaced. There is no record update, so a maker has a
 -- place for each field, and each replacement names the others.
-use Rattle.controller.specs.Prelude.{ℕ, Bool, false, List, getD, set, C64Address, ExpansionAddress, TransferType, SwapPhase, DmaState, Dma, Reu}
+use Rattle.regs.specs.Registers.{held}
+use Rattle.controller.specs.Prelude.{ℕ, Bool, false, List, set, Dma, Reu}
 
 -- register i
 abbrev pub reg : Reu → ℕ → ℕ
-reg u i = getD (u .regs) i 0
+reg u i = held (u .regs) i
 
 abbrev pub reuOf :
     List ℕ → ℕ → ℕ → ℕ → Bool → Bool → Bool → Bool → Bool → Bool → Bool → Bool → Bool → Bool → ℕ → Dma → Reu

@@ -1,9 +1,10 @@
 -- `tick_dma`, one granted cycle of a transfer. It sees the two bytes at the transfer's place, and writes at most one byte.
-use Rattle.controller.specs.Prelude.{ℕ, Bool, true, false, not, _&&_, _||_, cond, List, [], _∷_, eqb, set, Store, Recall, Swap, Verify, TransferType, SwapPhase, ReadC64, WriteC64, DmaState, Dma, Idle, Running, Seen, Put, Nothing, Bus, Storage, Reu, FlagAnswer, TickAnswer}
-use Rattle.transfer.specs.Constants.{status, verifyError}
-use Rattle.transfer.specs.Bytes.{bit, setBits}
-use Rattle.controller.specs.Reu.{reg, withRegs, withDma, withRelease, withRefresh, withRepeat}
-use Rattle.transfer.specs.Dma.{withPhase, withOdd, withLatch, withTail}
+use Rattle.controller.specs.Prelude.{ℕ, Bool, true, false, not, _&&_, _||_, cond, List, [], _∷_, eqb, Store, Recall, Swap, Verify, TransferType, SwapPhase, ReadC64, WriteC64, DmaState, Dma, Idle, Running, Seen, Put, Nothing, Bus, Storage, Reu, FlagAnswer, TickAnswer}
+use Rattle.transfer.specs.Constants.{verifyError}
+use Rattle.transfer.specs.Bytes.{bit, ones}
+use Rattle.regs.specs.FinishDma.{marked}
+use Rattle.controller.specs.Reu.{withRegs, withDma, withRelease, withRefresh, withRepeat}
+use Rattle.transfer.specs.Dma.{withOdd, withLatch, withTail, recalled, latched}
 use Rattle.transfer.specs.Memory.{putBus, putStorage}
 use Rattle.transfer.specs.Dma.{isType, moved, seenBy}
 use Rattle.controller.specs.FinishDma.{publishLiveCounters, finishDma}
@@ -30,19 +31,16 @@ advance u d error low put =
 unfoldable pub tickStore : Reu → DmaState → Seen → Bool → TickAnswer
 tickStore u d b low = advance u d false low (Storage (d .«reu_addr») (b .bus))
 
--- a recall: the storage's byte goes to the C64, or "repeats its latch for the second byte"
-abbrev pub recalled : Reu → DmaState → Seen → ℕ
-recalled u d b = cond (u .«recall_repeat» && not (d .«first_byte»)) (d .latch) (b .storage)
-
+-- a recall: the storage's byte goes to the C64, or the latch once more
 unfoldable pub tickRecall : Reu → DmaState → Seen → Bool → TickAnswer
 tickRecall u d b low =
-    advance (withRepeat u (u .«recall_repeat» && d .«first_byte»)) (withLatch d (recalled u d b)) false low
-    (Bus (d .«c64_addr») (recalled u d b))
+    advance (withRepeat u (u .«recall_repeat» && d .«first_byte»)) (withLatch d (recalled d (u .«recall_repeat») b)) false low
+    (Bus (d .«c64_addr») (recalled d (u .«recall_repeat») b))
 
 -- a swap: its first half latches the storage's byte and puts the C64's there, its second half puts the latch to the C64
 unfoldable pub swapRead : Reu → DmaState → Seen → ℕ → TickAnswer
 swapRead u d b cycle =
-    ticks true (withDma u (Running (withPhase (withLatch (withOdd d (bit cycle 0)) (b .storage)) WriteC64)))
+    ticks true (withDma u (Running (latched d b cycle)))
     (Storage (d .«reu_addr») (b .bus))
 
 unfoldable pub swapWrite : Reu → DmaState → Bool → TickAnswer
@@ -57,7 +55,7 @@ abbrev pub differs : Seen → Bool
 differs b = not (eqb (b .bus) (b .storage))
 
 abbrev pub withError : Reu → Bool → Reu
-withError u error = withRegs u (cond error (set (u .regs) status (setBits (verifyError ∷ []) (reg u status))) (u .regs))
+withError u error = withRegs u (marked (u .regs) (ones (verifyError ∷ [])) error)
 
 unfoldable pub tickVerify : Reu → DmaState → Seen → Bool → TickAnswer
 tickVerify u d b low = advance (withError u (differs b)) d (differs b) low Nothing
@@ -96,8 +94,8 @@ Ticked = FlagAnswer × List ℕ × List ℕ
 abbrev pub ticked : Bool → Reu → FlagAnswer
 ticked flag u = record { flag = flag; reu = u }
 
-abbrev pub laid : TickAnswer → List ℕ → List ℕ → Ticked
-laid t m s = (ticked (t .flag) (t .reu), putBus (t .put) m, putStorage (t .put) s)
+abbrev pub landed : TickAnswer → List ℕ → List ℕ → Ticked
+landed t m s = (ticked (t .flag) (t .reu), putBus (t .put) m, putStorage (t .put) s)
 
 unfoldable pub tickDma : Reu → List ℕ → List ℕ → ℕ → Bool → Ticked
-tickDma u m s cycle low = laid (tickOf (u .dma) u (seenBy (u .dma) m s) cycle low) m s
+tickDma u m s cycle low = landed (tickOf (u .dma) u (seenBy (u .dma) m s) cycle low) m s

@@ -2,12 +2,12 @@
 ghost use mathlib.Core.Path.{_≡_};
 ghost use Rattle.controller.specs.BusAction.{cpuReadyAfterDma, decide, fall, fallOnRead, fallOnSwapWrite, fallOnWrite, granted, nextAction, plain, repeated, resumed};
 ghost use Rattle.controller.specs.Timing.{c64Access};
-use crate::constants::COMMAND;
-use crate::constants::COMMAND_FF00_DISABLE;
 use crate::constants::LONGEST_READ_DELAY;
 use crate::reu::BusAnswer;
 use crate::reu::FlagAnswer;
 use crate::reu::Reu;
+use regs::COMMAND;
+use regs::COMMAND_FF00_DISABLE;
 use transfer::Put;
 use transfer::ReuBusAction;
 use transfer::ReuC64Access;
@@ -44,10 +44,12 @@ impl Reu {
     fn repeat(mut self, falling: bool) -> Reu
         ensures { λ r. ⌜ r ≡ repeated self falling ⌝ }
     {
-        let dma = self.dma;
-        let command = self.regs[COMMAND];
-        if falling & ((command & COMMAND_FF00_DISABLE != 0) & dma.recall_starts()) {
-            self.recall_repeat = true;
+        if falling {
+            let dma = self.dma;
+            let command = self.regs[COMMAND];
+            if (command & COMMAND_FF00_DISABLE != 0) & dma.recall_starts() {
+                self.recall_repeat = true;
+            }
         }
         self
     }
@@ -157,7 +159,8 @@ impl Reu {
     {
         let dma = self.dma;
         let falling = self.ba_was_high & !ba_high_phi1;
-        let resumes = !self.ba_was_high & (ba_high_phi1 & dma.resumes(cycle));
+        let rising = !self.ba_was_high & ba_high_phi1;
+        let resumes = dma.resumes(rising, cycle);
         let late = self.late_ba_fall;
         let mut reu = self;
         reu.late_ba_fall = ba_high_phi1 & !ba_high;
@@ -165,15 +168,17 @@ impl Reu {
         let out = reu.resumed(resumes)
             .repeat(falling)
             .decide(ba_high_phi1, falling, late);
-        let action = out.action;
-        let after = out.reu;
-        let asked = out.put;
-        let put = dma.restored_or(resumes, asked);
-        BusAnswer {
-            action,
-            reu: after,
-            put,
+        if resumes {
+            let action = out.action;
+            let after = out.reu;
+            let put = dma.restored();
+            return BusAnswer {
+                action,
+                reu: after,
+                put,
+            };
         }
+        out
     }
 
     // The release is used up, whatever BA is.

@@ -1,71 +1,35 @@
 // The register interface.
 ghost use mathlib.Core.Path.{_≡_};
-ghost use Rattle.transfer.specs.Constants.{addressControl, controlOnes, interruptMask, maskOnes};
-ghost use Rattle.transfer.specs.Bytes.{setBits, withBank, withHigh, withLow};
+ghost use Rattle.transfer.specs.Constants.{addressControl, interruptMask};
+ghost use Rattle.regs.specs.Registers.{shown};
 ghost use Rattle.controller.specs.Reu.{setReg};
 ghost use Rattle.controller.specs.FinishDma.{updateIrq};
-ghost use Rattle.controller.specs.Registers.{debugRegister, readRegister, registerIndex, writeBank, writeC64, writeCommand, writeLen, writeRegister, writeExp};
-use crate::constants::ADDRESS_CONTROL;
-use crate::constants::ADDRESS_CONTROL_UNUSED_READ_HIGH;
-use crate::constants::BANK_UNUSED_READ_HIGH;
-use crate::constants::C64_ADDRESS_HIGH;
-use crate::constants::C64_ADDRESS_LOW;
-use crate::constants::COMMAND;
-use crate::constants::COMMAND_EXECUTE;
-use crate::constants::COMMAND_FF00_DISABLE;
-use crate::constants::INTERRUPT_MASK;
-use crate::constants::INTERRUPT_UNUSED_READ_HIGH;
-use crate::constants::REGISTER_COUNT;
-use crate::constants::REGISTER_INDEX_MASK;
-use crate::constants::REU_ADDRESS_BANK;
-use crate::constants::REU_ADDRESS_HIGH;
-use crate::constants::REU_ADDRESS_LOW;
-use crate::constants::STATUS;
-use crate::constants::STATUS_EVENT_MASK;
-use crate::constants::TRANSFER_LENGTH_HIGH;
-use crate::constants::TRANSFER_LENGTH_LOW;
-use crate::constants::UNUSED_REGISTER_VALUE;
+ghost use Rattle.controller.specs.Registers.{debugRegister, readRegister, writeBank, writeC64, writeCommand, writeExp, writeLen, writeRegister};
 use crate::reu::ReadAnswer;
 use crate::reu::Reu;
-
-// A shadow's byte is replaced by a mask and a shift.
-
-fn with_low16(n: u16, v: u8) -> u16
-    ensures { λ r. ⌜ r ≡ withLow n v ⌝ }
-{
-    (n & 0xFF00) | (v as u16)
-}
-
-fn with_high16(n: u16, v: u8) -> u16
-    ensures { λ r. ⌜ r ≡ withHigh n v ⌝ }
-{
-    (n & 0x00FF) | ((v as u16) << 8)
-}
-
-fn with_low32(n: u32, v: u8) -> u32
-    ensures { λ r. ⌜ r ≡ withLow n v ⌝ }
-{
-    (n & 0xFFFF_FF00) | (v as u32)
-}
-
-fn with_high32(n: u32, v: u8) -> u32
-    ensures { λ r. ⌜ r ≡ withHigh n v ⌝ }
-{
-    (n & 0xFFFF_00FF) | ((v as u32) << 8)
-}
-
-fn with_bank32(n: u32, v: u8) -> u32
-    ensures { λ r. ⌜ r ≡ withBank n v ⌝ }
-{
-    (n & 0x0000_FFFF) | ((v as u32) << 16)
-}
-
-// The register that an address selects.
-fn register_index(addr: u16) -> usize
-    ensures { λ r. ⌜ r ≡ registerIndex addr ⌝ }
-{
-    (addr & REGISTER_INDEX_MASK) as usize
-}
+use regs::ADDRESS_CONTROL;
+use regs::C64_ADDRESS_HIGH;
+use regs::C64_ADDRESS_LOW;
+use regs::COMMAND;
+use regs::COMMAND_EXECUTE;
+use regs::COMMAND_FF00_DISABLE;
+use regs::INTERRUPT_MASK;
+use regs::REGISTER_COUNT;
+use regs::REU_ADDRESS_BANK;
+use regs::REU_ADDRESS_HIGH;
+use regs::REU_ADDRESS_LOW;
+use regs::STATUS;
+use regs::TRANSFER_LENGTH_HIGH;
+use regs::TRANSFER_LENGTH_LOW;
+use regs::UNUSED_REGISTER_VALUE;
+use regs::acknowledged;
+use regs::register_index;
+use regs::shown;
+use regs::with_bank32;
+use regs::with_high16;
+use regs::with_high32;
+use regs::with_low16;
+use regs::with_low32;
 
 impl Reu {
     // Reading STATUS acknowledges the events, after the old byte is answered.
@@ -82,17 +46,14 @@ impl Reu {
         let stored = self.regs[index];
         if index == STATUS {
             let mut reu = self;
-            reu.regs[STATUS] = stored & !STATUS_EVENT_MASK;
+            reu.regs[STATUS] = acknowledged(stored);
             reu.irq_pending = false;
             return ReadAnswer { value: stored, reu };
         }
-        let value = match index {
-            REU_ADDRESS_BANK => stored | BANK_UNUSED_READ_HIGH,
-            INTERRUPT_MASK => stored | INTERRUPT_UNUSED_READ_HIGH,
-            ADDRESS_CONTROL => stored | ADDRESS_CONTROL_UNUSED_READ_HIGH,
-            _ => stored,
-        };
-        ReadAnswer { value, reu: self }
+        ReadAnswer {
+            value: shown(index, stored),
+            reu: self,
+        }
     }
 
     // With bit 7 a command begins at once, or is armed for the access to $FF00.
@@ -148,16 +109,16 @@ impl Reu {
 
     // Enabling an event that is already latched raises the interrupt.
     fn write_mask(mut self, value: u8) -> Reu
-        ensures { λ r. ⌜ r ≡ updateIrq (setReg self interruptMask (setBits maskOnes value)) ⌝ }
+        ensures { λ r. ⌜ r ≡ updateIrq (setReg self interruptMask (shown interruptMask value)) ⌝ }
     {
-        self.regs[INTERRUPT_MASK] = value | INTERRUPT_UNUSED_READ_HIGH;
+        self.regs[INTERRUPT_MASK] = shown(INTERRUPT_MASK, value);
         self.update_irq()
     }
 
     fn write_control(mut self, value: u8) -> Reu
-        ensures { λ r. ⌜ r ≡ setReg self addressControl (setBits controlOnes value) ⌝ }
+        ensures { λ r. ⌜ r ≡ setReg self addressControl (shown addressControl value) ⌝ }
     {
-        self.regs[ADDRESS_CONTROL] = value | ADDRESS_CONTROL_UNUSED_READ_HIGH;
+        self.regs[ADDRESS_CONTROL] = shown(ADDRESS_CONTROL, value);
         self
     }
 
@@ -171,7 +132,7 @@ impl Reu {
             C64_ADDRESS_HIGH => self.write_c64(with_high16(self.shadow_c64_addr, value)),
             REU_ADDRESS_LOW => self.write_reu(with_low32(self.shadow_reu_addr, value)),
             REU_ADDRESS_HIGH => self.write_reu(with_high32(self.shadow_reu_addr, value)),
-            REU_ADDRESS_BANK => self.write_bank(value | BANK_UNUSED_READ_HIGH),
+            REU_ADDRESS_BANK => self.write_bank(shown(REU_ADDRESS_BANK, value)),
             TRANSFER_LENGTH_LOW => self.write_len(with_low16(self.shadow_len, value)),
             TRANSFER_LENGTH_HIGH => self.write_len(with_high16(self.shadow_len, value)),
             INTERRUPT_MASK => self.write_mask(value),

@@ -1,12 +1,12 @@
 // One granted cycle of a transfer. A tick sees the two bytes at the transfer's place, and says what it writes.
 ghost use mathlib.Core.Path.{_≡_};
-ghost use Rattle.controller.specs.TickDma.{advance, recalled, swapRead, swapWrite, tickByType, tickDma, tickOf, tickRecall, tickRefresh, tickRunning, tickStore, tickSwap, tickTail, tickVerify, withError, ticks};
+ghost use Rattle.controller.specs.TickDma.{advance, swapRead, swapWrite, tickByType, tickDma, tickOf, tickRecall, tickRefresh, tickRunning, tickStore, tickSwap, tickTail, tickVerify, withError, ticks};
 ghost use mathlib.Core.Bool.{false};
-use crate::constants::STATUS;
-use crate::constants::STATUS_VERIFY_ERROR;
 use crate::reu::FlagAnswer;
 use crate::reu::Reu;
 use crate::reu::TickAnswer;
+use regs::STATUS_VERIFY_ERROR;
+use regs::marked;
 use transfer::Dma;
 use transfer::DmaState;
 use transfer::Put;
@@ -61,22 +61,11 @@ impl Reu {
         self.advance(d, false, ba_low, put)
     }
 
-    // A repeated recall takes the latch.
-    fn recalled(self, d: DmaState, seen: Seen) -> u8
-        ensures { λ r. ⌜ r ≡ recalled self d seen ⌝ }
-    {
-        if self.recall_repeat & !d.first_byte {
-            d.latch
-        } else {
-            seen.storage
-        }
-    }
-
     fn tick_recall(self, d: DmaState, seen: Seen, ba_low: bool) -> TickAnswer
         ensures { λ r. ⌜ r ≡ tickRecall self d seen «ba_low» ⌝ }
     {
         let addr = d.c64_addr;
-        let value = self.recalled(d, seen);
+        let value = d.recalled(self.recall_repeat, seen);
         let put = Put::Bus(addr, value);
         let mut reu = self;
         reu.recall_repeat = self.recall_repeat & d.first_byte;
@@ -89,12 +78,8 @@ impl Reu {
         ensures { λ r. ⌜ r ≡ swapRead self d seen cycle ⌝ }
     {
         let addr = d.reu_addr;
-        let phase = SwapPhase::WriteC64;
-        let mut next = d.with_phase(phase);
-        next.read_clock_odd = cycle & 1 != 0;
-        next.latch = seen.storage;
         let put = Put::Storage(addr, seen.bus);
-        let reu = self.running(next);
+        let reu = self.running(d.latched(seen, cycle));
         TickAnswer {
             flag: true,
             reu,
@@ -129,10 +114,9 @@ impl Reu {
     fn with_error(mut self, error: bool) -> Reu
         ensures { λ r. ⌜ r ≡ withError self error ⌝ }
     {
-        if error {
-            let status = self.regs[STATUS];
-            self.regs[STATUS] = status | STATUS_VERIFY_ERROR;
-        }
+        let regs = self.regs;
+        let shown = marked(regs, STATUS_VERIFY_ERROR, error);
+        self.regs = shown;
         self
     }
 

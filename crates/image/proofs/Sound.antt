@@ -17,7 +17,7 @@ use Rattle.transfer.specs.declared.dma.SwapPhase.{SwapPhase}
 use Rattle.transfer.specs.Constants.{maskOnes, controlOnes}
 use Rattle.transfer.specs.Bytes.{bit, setBits}
 use Rattle.transfer.specs.Dma.{isType, isWritePhase}
-use Rattle.controller.specs.FinishDma.{counters}
+use Rattle.regs.specs.FinishDma.{counters}
 use Rattle.controller.specs.Enable.{fresh}
 use Rattle.transfer.proofs.Pick.{by-test}
 use Rattle.image.proofs.Packed.{all-below}

@@ -33,13 +33,15 @@ use Rattle.controller.specs.Registers.{readRegister, writeRegister, writeComman
 use Rattle.transfer.specs.Memory.{nextC64, nextExp, putBus, putStorage, zeros}
 use Rattle.controller.specs.Timing.{c64Access}
 use Rattle.transfer.specs.Timing.{reads, writes}
-use Rattle.transfer.specs.Dma.{isType, lengthOf, moved, firstByte, lastByte}
-use Rattle.controller.specs.StartDma.{requested, startDma, triggerFf00}
-use Rattle.controller.specs.FinishDma.{updateIrq, irqDue, publishLiveCounters, finishedStatus, finishedCommand, autoloaded, finishDma}
+use Rattle.transfer.specs.Dma.{isType, lengthOf, moved, recalled, firstByte, lastByte}
+use Rattle.regs.specs.StartDma.{requested}
+use Rattle.controller.specs.StartDma.{startDma, triggerFf00}
+use Rattle.regs.specs.FinishDma.{irqDue, finishedCommand, autoloaded, finished}
+use Rattle.controller.specs.FinishDma.{updateIrq, publishLiveCounters, finishDma}
 use Rattle.controller.specs.Enable.{fresh, setEnabled}
 use Rattle.controller.specs.BusAction.{repeated, plain, fallOnRead, fallOnSwapWrite, fallOnWrite, fall, decide, resumed, nextAction, busAction}
 use Rattle.transfer.specs.Timing.{readAgain, restored, resumes, swapReads, swapWrites}
-use Rattle.controller.specs.TickDma.{advance, tickStore, tickRecall, recalled, swapRead, swapWrite, tickSwap, differs, withError, tickVerify, tickByType, tickRefresh, tickTail, tickRunning, tickOf, tickDma}
+use Rattle.controller.specs.TickDma.{advance, tickStore, tickRecall, swapRead, swapWrite, tickSwap, differs, withError, tickVerify, tickByType, tickRefresh, tickTail, tickRunning, tickOf, tickDma}
 use Rattle.transfer.specs.Dma.{seenBy}
 use Rattle.controller.specs.Cycle.{cycleBy, runReuCycle}
 use Rattle.transfer.proofs.Pick.{by-test}
@@ -60,13 +62,13 @@ sound-read u a s =
 
 sound-irq : (u : Reu) → Sound u → Sound (updateIrq u)
 unfolding updateIrq
-sound-irq u s = with-regs s (raise 128 (omega arith) (irqDue u) (s .regs))
+sound-irq u s = with-regs s (raise 128 (omega arith) (irqDue (u .regs)) (s .regs))
 
 pub length-range : (q : ℕ) → q < 65536 → (1 ≤ lengthOf q) × (lengthOf q ≤ 65536)
 unfolding lengthOf
 length-range q h = by-test (λ (n : ℕ). (1 ≤ n) × (n ≤ 65536)) (eqb q 0) 65536 q (λ _. omega arith) (λ ne. omega (arith, eqb-false q 0 ne))
 
-sound-requested : (u : Reu) → Sound u → u .attached ≡ true → SoundTransfer (u .attached) (requested u)
+sound-requested : (u : Reu) → Sound u → u .attached ≡ true → SoundTransfer (u .attached) (requested (u .regs))
 unfolding requested
 sound-requested u s att =
     let b = s .regs .fits in
@@ -194,7 +196,7 @@ pub sound-next : (u : Reu) (high phi1 : Bool) (cycle : ℕ) → Sound u → Soun
 unfolding nextAction repeated
 sound-next u high phi1 cycle s =
     let falling = u .«ba_was_high» && not phi1 in
-    let resume = not (u .«ba_was_high») && (phi1 && resumes (u .dma) cycle) in
+    let resume = resumes (u .dma) (not (u .«ba_was_high») && phi1) cycle in
     let now = withHistory u phi1 (phi1 && not high) in
     let g = again (u .attached) (u .dma) (s .dma) in
     let ready : Sound (resumed now resume) = by-test Sound resume (withDma now (readAgain (u .dma))) now (λ _. with-dma s (g .0)) (λ _. s) in
@@ -210,10 +212,8 @@ sound-publish : (u : Reu) (d : DmaState) → Sound u → Sound (publishLiveCount
 unfolding publishLiveCounters
 sound-publish u d s = with-regs s (count-all (d .«c64_addr» .0) (d .«reu_addr» .0) (d .remaining) (s .regs))
 
-sound-autoloaded : (u : Reu) (b : Bool) → Sound u → Sound (autoloaded u b)
-unfolding autoloaded
-sound-autoloaded u b s =
-    with-regs s (by-test SoundRegs b _ _ (λ _. count-all (u .«shadow_c64_addr») (u .«shadow_reu_addr») (u .«shadow_len») (s .regs)) (λ _. s .regs))
+autoloaded-regs : (b : Bool) (c e n : ℕ) {l : List ℕ} → SoundRegs l → SoundRegs (autoloaded l b c e n)
+autoloaded-regs b c e n r = by-test SoundRegs b _ _ (λ _. count-all c e n r) (λ _. r)
 
 finished-command : (l : List ℕ) → SoundRegs l → SoundRegs (finishedCommand l)
 finished-command l r =
@@ -223,9 +223,13 @@ finished-command l r =
 sound-finish : (u : Reu) (d : DmaState) (done : Bool) → Sound u → Sound (finishDma u d done)
 unfolding finishDma
 sound-finish u d done s =
-    let l : List ℕ = finishedCommand (finishedStatus (u .regs) done) in
-    sound-irq (withDma (autoloaded (withRegs u l) (d .autoload)) Idle)
-    (with-dma (sound-autoloaded (withRegs u l) (d .autoload) (with-regs s (finished-command _ (raise 64 (omega arith) done (s .regs))))) tt)
+    let l : List ℕ = autoloaded (finished (u .regs) done) (d .autoload) (u .«shadow_c64_addr») (u .«shadow_reu_addr») (u .«shadow_len») in
+    sound-irq (withDma (withRegs u l) Idle)
+    (with-dma
+    (with-regs s
+    (autoloaded-regs (d .autoload) (u .«shadow_c64_addr») (u .«shadow_reu_addr») (u .«shadow_len»)
+    (finished-command _ (raise 64 (omega arith) done (s .regs)))))
+    tt)
 
 sound-moved : (att : Bool) (d : DmaState) → SoundTransfer att d → d .«verify_tail» ≡ false → SoundTransfer att (moved d)
 sound-moved att d h e =
@@ -273,9 +277,9 @@ module _ (u : Reu) (d : DmaState) (b : Seen) (s : Sound u) (h : SoundTransfer (u
     unfolding tickByType tickStore tickRecall tickVerify
     sound-by-type Store et = sound-advance u d false low _ s h e never (see .0)
     sound-by-type Recall et =
-        let v : recalled u d b < 256
+        let v : recalled d (u .«recall_repeat») b < 256
         = by-test (λ (x : ℕ). x < 256) (u .«recall_repeat» && not (d .«first_byte»)) (d .latch) (b .storage) (λ _. h .latch) (λ _. see .1) in
-        sound-advance (withRepeat u (u .«recall_repeat» && d .«first_byte»)) (withLatch d (recalled u d b)) false low _ s (with-step h v (h .phase) (h .tail)) e never v
+        sound-advance (withRepeat u (u .«recall_repeat» && d .«first_byte»)) (withLatch d (recalled d (u .«recall_repeat») b)) false low _ s (with-step h v (h .phase) (h .tail)) e never v
     sound-by-type Swap et = sound-by-phase (d .«swap_phase») et
     sound-by-type Verify et =
         sound-advance (withError u (differs b)) d (differs b) low Nothing (with-regs s (raise 32 (omega arith) (differs b) (s .regs))) h e

@@ -177,7 +177,7 @@ fn register_row(image: &[u8], register: u8) -> Line
 
 // ---- beside the registers
 
-// Bytes 18 to 20 of the image: flags, more flags and the delay.
+// The image's flags, more flags and delay.
 fn flags_row(image: &[u8], row: usize) -> Line
     ensures { λ r. ⌜ textOf r ≡ flagsRow (now (image .entry)) row ⌝ }
 {

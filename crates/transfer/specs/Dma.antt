@@ -1,7 +1,7 @@
 -- The transfer record: its parts, completing a byte, and when it is refused.
 use Rattle.transfer.specs.Prelude.{ℕ, _-_, Bool, true, false, not, _&&_, _||_, cond, List, [], _∷_, eqb, leb, ltb, C64Address, ExpansionAddress, Seen, TransferType, Store, Recall, Swap, Verify, SwapPhase, ReadC64, WriteC64, DmaState, Dma, Idle, Running, Completed}
 use Rattle.transfer.specs.Constants.{expansionLimit, fullLength}
-use Rattle.transfer.specs.Bytes.{keepBits}
+use Rattle.transfer.specs.Bytes.{bit, keepBits}
 use Rattle.transfer.specs.Memory.{nextC64, nextExp, seenAt}
 
 -- ---- a transfer with some fields replaced. There is no record update, so a maker has a place for each field
@@ -95,6 +95,14 @@ moved d =
 
 unfoldable pub completeByte : DmaState → Completed
 completeByte d = record { done = eqb (d .remaining) 1; dma = moved d }
+
+-- a recall's byte: the storage's, or it "repeats its latch for the second byte"
+abbrev pub recalled : DmaState → Bool → Seen → ℕ
+recalled d repeat b = cond (repeat && not (d .«first_byte»)) (d .latch) (b .storage)
+
+-- a swap's first half latches the storage's byte and takes the cycle's parity, and its second half is next
+abbrev pub latched : DmaState → Seen → ℕ → DmaState
+latched d b cycle = withPhase (withLatch (withOdd d (bit cycle 0)) (b .storage)) WriteC64
 
 -- the bytes that a running transfer sees; none counts where there is no transfer
 abbrev pub seenBy : Dma → List ℕ → List ℕ → Seen

@@ -54,8 +54,8 @@ abbrev pub recallStarts : Dma → Bool
 recallStarts x = runs (λ d. isType (d .«transfer_type») Recall && d .«first_byte») x
 
 -- "a rise on a write phase with equal parity"
-abbrev pub resumes : Dma → ℕ → Bool
-resumes x cycle = swapWrites x && Bool·beq (runs (λ d. d .«read_clock_odd») x) (bit cycle 0)
+abbrev pub resumes : Dma → Bool → ℕ → Bool
+resumes x rising cycle = rising && (swapWrites x && Bool·beq (runs (λ d. d .«read_clock_odd») x) (bit cycle 0))
 
 -- a swap's write phase "restores the storage byte and returns to the read phase"
 abbrev pub readAgain : Dma → Dma

@@ -3,7 +3,7 @@ ghost use mathlib.Core.Path.{_≡_};
 ghost use mathlib.Core.Bool.{cond, true};
 ghost use Prim.Native.Nat.{_-_};
 ghost use lib.Dec.{eqb};
-ghost use Rattle.transfer.specs.Dma.{active, completeByte, firstByte, isType, isWritePhase, lastByte, seenBy, typeNumber, typeOf, wellDma, wellTransfer, withPhase, withTail};
+ghost use Rattle.transfer.specs.Dma.{active, completeByte, firstByte, isType, isWritePhase, lastByte, latched, recalled, seenBy, typeNumber, typeOf, wellDma, wellTransfer, withPhase, withTail};
 use crate::constants::COMMAND_TRANSFER_TYPE_MASK;
 use crate::constants::EXPANSION_ADDRESS_LIMIT;
 use crate::constants::FULL_64K_TRANSFER_LENGTH;
@@ -202,6 +202,28 @@ impl DmaState {
             read_clock_odd: self.read_clock_odd,
             verify_tail: self.verify_tail,
         }
+    }
+
+    // A repeated recall takes the latch.
+    pub fn recalled(self, repeat: bool, seen: Seen) -> u8
+        ensures { λ r. ⌜ r ≡ recalled self repeat seen ⌝ }
+    {
+        if repeat & !self.first_byte {
+            self.latch
+        } else {
+            seen.storage
+        }
+    }
+
+    // The first half of a swap's byte.
+    pub fn latched(self, seen: Seen, cycle: u64) -> DmaState
+        ensures { λ r. ⌜ r ≡ latched self seen cycle ⌝ }
+    {
+        let phase = SwapPhase::WriteC64;
+        let mut next = self.with_phase(phase);
+        next.read_clock_odd = cycle & 1 != 0;
+        next.latch = seen.storage;
+        next
     }
 
     pub fn with_tail(mut self) -> DmaState

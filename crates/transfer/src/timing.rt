@@ -1,6 +1,5 @@
 // The grant of a cycle, and the C64 side's next access.
 ghost use mathlib.Core.Path.{_≡_};
-ghost use mathlib.Core.Bool.{cond};
 ghost use Rattle.transfer.specs.Timing.{accessByType, accessNumber, accessOf, actionForCycle, actionNumber, readAgain, reads, recallStarts, restored, resumes, swapReads, swapWrites, writes};
 ghost use Rattle.transfer.specs.Dma.{runs};
 use crate::constants::ACCESS_KIND;
@@ -176,11 +175,14 @@ impl Dma {
     }
 
     // BA rises on a write phase whose read had the same parity.
-    pub fn resumes(self, cycle: u64) -> bool
-        ensures { λ r. ⌜ r ≡ resumes self cycle ⌝ }
+    pub fn resumes(self, rising: bool, cycle: u64) -> bool
+        ensures { λ r. ⌜ r ≡ resumes self rising cycle ⌝ }
     {
-        let odd = cycle & 1 != 0;
-        self.swap_writes() & (self.odd_read() == odd)
+        if rising {
+            let odd = cycle & 1 != 0;
+            return self.swap_writes() & (self.odd_read() == odd);
+        }
+        false
     }
 
     // A swap's write half is given up: the read half comes next, and the storage has its byte again.
@@ -206,15 +208,5 @@ impl Dma {
                 Put::Storage(addr, d.latch)
             }
         }
-    }
-
-    // What a grant writes: the byte, where the write half is given up, or what was to be written.
-    pub fn restored_or(self, resumes: bool, put: Put) -> Put
-        ensures { λ r. ⌜ r ≡ cond resumes (restored self) put ⌝ }
-    {
-        if resumes {
-            return self.restored();
-        }
-        put
     }
 }

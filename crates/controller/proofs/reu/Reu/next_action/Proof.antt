@@ -1,3 +1,4 @@
+use mathlib.Core.Path.{sym, _∙_}
 use Rattle.controller.specs.BusAction.{nextAction}
 use borrow.Author.Needs.{needs}
 use Rattle.controller.proofs.reu.Reu.next_action.Statement.{statement}
@@ -5,15 +6,14 @@ use Rattle.controller.proofs.reu.Reu.next_action.Tie as tie
 
 returns : tie.Need-returns
 unfolding nextAction
-returns c =
-    let its-decide = c .before .before .decide in
-    let its-repeat = c .before .before .before .repeat in
-    let its-resumed = c .before .before .before .before .resumed in
-    let its-resumes = c .before .before .before .before .before .resumes in
-    rw (c .restored-or .ensures, its-decide .ensures, its-repeat .ensures, its-resumed .ensures, its-resumes .ensures)
+returns c = rw (c .restored .ensures, c .before .before .before .decide .ensures, c .before .before .before .before .repeat .ensures, c .before .before .before .before .before .resumed .ensures, c .before .before .before .before .before .before .resumes .ensures, sym (c .before .before .before .before .before .before .resumes .ensures) ∙ c .before .before .if1 .taken)
+
+returns-2 : tie.Need-returns-2
+unfolding nextAction
+returns-2 c = rw (c .before .decide .ensures, c .before .before .repeat .ensures, c .before .before .before .resumed .ensures, c .before .before .before .before .resumes .ensures, sym (c .before .before .before .before .resumes .ensures) ∙ c .if1 .left)
 
 pub next-action-spec : {M : Type 1} → statement M
 next-action-spec =
     tie.close
     (tie.spec (λ c κs. search needs) (λ c κs. search needs) (λ c κs. search needs) (λ c κs. search needs)
-    (λ c κs. search needs) returns)
+    (λ c κs. search needs) returns returns-2)

@@ -5,7 +5,7 @@ use Rattle.controller.proofs.reu.Reu.publish_live_counters.Tie as tie
 
 returns : tie.Need-returns
 unfolding publishLiveCounters
-returns c = c .show .ensures
+returns c = rw (c .counters .ensures)
 
 pub publish-live-counters-spec : {M : Type 1} → statement M
 publish-live-counters-spec =

@@ -5,9 +5,7 @@ use Rattle.controller.proofs.reu.Reu.swap_read.Tie as tie
 
 returns : tie.Need-returns
 unfolding swapRead
-returns c =
-    let its-with-phase = c .before .with-phase in
-    rw (c .running .ensures, its-with-phase .ensures)
+returns c = rw (c .running .ensures, c .before .latched .ensures)
 
 pub swap-read-spec : {M : Type 1} → statement M
 swap-read-spec =

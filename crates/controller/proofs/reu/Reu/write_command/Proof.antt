@@ -1,4 +1,4 @@
-use borrow.Author.Tests.{eq-eqb, ne-eqb}
+use borrow.Author.Tests.{ne-eqb}
 use Rattle.controller.specs.Registers.{writeCommand}
 use borrow.Author.Needs.{needs}
 use Rattle.controller.proofs.reu.Reu.write_command.Statement.{statement}

@@ -46,9 +46,10 @@ returns-5 c =
 returns-6 : tie.Need-returns-6
 unfolding writeRegister
 returns-6 c =
-    let its-match = c .before .match in
-    let its-register-index = c .before .before .register-index in
-    rw (c .write-bank .ensures, ← its-register-index .ensures, its-match .keys6)
+    let its-shown = c .before .shown in
+    let its-match = c .before .before .match in
+    let its-register-index = c .before .before .before .register-index in
+    rw (c .write-bank .ensures, its-shown .ensures, ← its-register-index .ensures, its-match .keys6)
 
 returns-7 : tie.Need-returns-7
 unfolding writeRegister
@@ -90,7 +91,7 @@ returns-11 c =
 pub write-register-spec : {M : Type 1} → statement M
 write-register-spec =
     tie.close
-    (tie.spec (λ c κs. search needs) (λ c κs. search needs) (λ c κs. search needs) (λ c κs. search needs)
+    (tie.spec (λ c κs. search needs) (λ c κs. search needs) (λ c κs. search needs) (λ c κs. search needs) (λ c κs. search needs)
     (λ c κs. search needs) (λ c κs. search needs) (λ c κs. search needs) (λ c κs. search needs)
     (λ c κs. search needs) (λ c κs. search needs) (λ c κs. search needs) (λ c κs. search needs)
     (λ c κs. search needs) (λ c κs. search needs) (λ c κs. search needs) (λ c κs. search needs)

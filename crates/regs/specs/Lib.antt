@@ -1,0 +1,4 @@
+pub mod Prelude
+pub mod Registers
+pub mod StartDma
+pub mod FinishDma
