@@ -6,7 +6,7 @@ use Prim.Native.Nat.{ℕ, suc, _+_, _-_, _≤_, _<_}
 use native.Mathlib.Omega.{arith}
 use lib.Dec.{leb}
 use Rattle.pane.specs.Rows.{byteAt}
-use Rattle.pane.specs.Shown.{_⊕_, ascii, hexOf}
+use Rattle.text.specs.Shown.{_⊕_, ascii, hexOf}
 use Rattle.console.specs.Memory.{bytesText}
 
 module _ (k : ℕ) (m : List ℕ) (a end : ℕ) (t₀ : List ℕ) where

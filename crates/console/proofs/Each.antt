@@ -4,7 +4,7 @@ use mathlib.Core.List.{List}
 use Prim.Native.Nat.{ℕ, suc, _+_, _-_, _≤_, _<_}
 use native.Mathlib.Omega.{arith}
 use lib.ListN.{length}
-use Rattle.pane.specs.Typed.{wordsOf}
+use Rattle.text.specs.Typed.{wordsOf}
 use Rattle.console.specs.Memory.{address, bytesFrom, bytesOf, each, typed}
 
 -- before word i, with m so far: what is left of the words makes of m what all of them make of m₀

@@ -9,9 +9,9 @@ use Rattle.image.specs.Layout.{imageSize}
 use Rattle.controller.specs.Refusals.{checked}
 use Rattle.image.specs.Open.{bytesOk, imageOk, openImage}
 use Rattle.reu.specs.Exports.{change, look}
-use Rattle.pane.specs.Faults.{faultOf, faultsFrom}
-use Rattle.pane.specs.Shown.{_⊕_, ascii, decimalUpTo, fillFrom, hexOf}
-use Rattle.pane.specs.Typed.{digitsFrom, numberOf, same, wordFrom, wordsFrom}
+use Rattle.text.specs.Faults.{faultOf, faultsFrom}
+use Rattle.text.specs.Shown.{_⊕_, ascii, decimalUpTo, fillFrom, hexOf}
+use Rattle.text.specs.Typed.{digitsFrom, numberOf, same, wordFrom, wordsFrom}
 use Rattle.console.specs.declared.clock.Clock.{Clock}
 use Rattle.console.specs.Apply.{applyOf, controlOf}
 use Rattle.console.specs.Beside.{besideRow}

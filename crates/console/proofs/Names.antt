@@ -10,7 +10,7 @@ use lib.Dec.{eqb}
 use lib.ListN.{length, drop, getD, drop-of-length-le}
 use lib.Seq.{drop-cons}
 use borrow.Author.Tests.{eq-eqb, eqb-true, eqb-false, ne-eqb}
-use Rattle.pane.specs.Typed.{isBlank, same, wordFrom, wordOf}
+use Rattle.text.specs.Typed.{isBlank, same, wordFrom, wordOf}
 use Rattle.console.specs.Commands.{nameAt, names, placeIn, placeOf}
 
 never : {A : Type 0} → false ≡ true → A

@@ -4,7 +4,7 @@ use mathlib.Core.List.{List, []}
 use Prim.Native.Nat.{ℕ}
 use borrow.Author.Tests.{eq-eqb, ne-eqb}
 use Rattle.reu.specs.Exports.{reuDmaActive}
-use Rattle.pane.specs.Shown.{_⊕_, ascii}
+use Rattle.text.specs.Shown.{_⊕_, ascii}
 use Rattle.console.specs.declared.clock.Clock.{Clock}
 use Rattle.console.specs.declared.step.Cycle.{Cycle}
 use Rattle.console.specs.Apply.{Outcome, countOr, goOutcome, stepOutcome}

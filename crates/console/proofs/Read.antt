@@ -5,8 +5,8 @@ use mathlib.Core.List.{List}
 use Prim.Native.Nat.{ℕ, _%_}
 use Rattle.reu.specs.Exports.{reuRead}
 use Rattle.pane.specs.Answers.{accepted, refusedBy}
-use Rattle.pane.specs.Shown.{_⊕_, fillOf, hexOf}
-use Rattle.pane.specs.Typed.{wordOf}
+use Rattle.text.specs.Shown.{_⊕_, fillOf, hexOf}
+use Rattle.text.specs.Typed.{wordOf}
 use Rattle.console.specs.Memory.{address}
 use Rattle.console.specs.Registers.{afterRead, readText}
 

@@ -13,10 +13,10 @@ use Rattle.image.specs.Layout.{placeOf, transferExp}
 use Rattle.image.specs.Open.{openImage}
 use Rattle.reu.proofs.Families.{look-refused}
 use Rattle.reu.specs.Exports.{refusal, refusalUnit, reuBusAction, reuC64Access, reuCycle, reuDmaActive}
-use Rattle.pane.proofs.Cuts.{then}
+use Rattle.text.proofs.Cuts.{then}
 use Rattle.pane.specs.Answers.{accepted}
 use Rattle.pane.specs.Rows.{copyOf, longAt}
-use Rattle.pane.specs.Shown.{_⊕_, decimalOf}
+use Rattle.text.specs.Shown.{_⊕_, decimalOf}
 use Rattle.transfer.specs.Bytes.{bit, bitOf}
 use Rattle.transfer.proofs.Bits.{bit-digit, low-digit}
 use Rattle.console.specs.declared.clock.Clock.{Clock}

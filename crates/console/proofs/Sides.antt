@@ -5,7 +5,7 @@ use mathlib.Core.List.{List, []}
 use Prim.Native.Nat.{ℕ}
 use lib.Dec.{eqb}
 use lib.ListN.{length}
-use Rattle.pane.specs.Typed.{same}
+use Rattle.text.specs.Typed.{same}
 use Rattle.console.specs.Beside.{besideRow, isShown, marked, twoRows}
 
 -- & and | as choices

@@ -4,7 +4,7 @@ use mathlib.Core.Bool.{Bool, true, false}
 use mathlib.Core.List.{List, []}
 use Prim.Native.Nat.{ℕ, _-_, _≤_, _<_}
 use borrow.Author.Tests.{lt-ltb, le-ltb}
-use Rattle.pane.specs.Typed.{wordOf}
+use Rattle.text.specs.Typed.{wordOf}
 use Rattle.console.specs.declared.session.Session.{Session}
 use Rattle.console.specs.Apply.{Outcome, applyOf, stepOutcome}
 use Rattle.console.specs.Commands.{lineFault}

@@ -6,8 +6,8 @@ use mathlib.Core.List.{List, [], _∷_}
 use lib.Dec.{eqb}
 use Rattle.transfer.specs.Memory.{zeros}
 use Rattle.reu.specs.Exports.{reuDmaActive, reuNew, reuReset, reuSetEnabled, reuTriggerFf00}
-use Rattle.pane.specs.Shown.{_⊕_, ascii, decimalOf, textOf}
-use Rattle.pane.specs.Typed.{numberOf, valueOf, wordOf, wordsOf}
+use Rattle.text.specs.Shown.{_⊕_, ascii, decimalOf, textOf}
+use Rattle.text.specs.Typed.{numberOf, valueOf, wordOf, wordsOf}
 use Rattle.console.specs.declared.clock.Clock.{Clock}
 use Rattle.console.specs.declared.step.Cycle.{Cycle}
 use Rattle.console.specs.Clock.{Time, inputsOf, letterOf, timeAfter, timeOf}

@@ -4,8 +4,8 @@ use mathlib.Core.Bool.{Bool, true, false, not, cond}
 use mathlib.Core.List.{List, [], _∷_}
 use lib.Dec.{eqb}
 use lib.ListN.{length, take, drop}
-use Rattle.pane.specs.Shown.{_⊕_, ascii, padded}
-use Rattle.pane.specs.Typed.{same}
+use Rattle.text.specs.Shown.{_⊕_, ascii, padded}
+use Rattle.text.specs.Typed.{same}
 
 -- a row with a mark in front
 abbrev pub marked : ℕ → List ℕ → List ℕ

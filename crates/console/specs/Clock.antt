@@ -5,7 +5,7 @@ use mathlib.Core.List.{List, [], _∷_}
 use lib.Dec.{eqb, ltb}
 use lib.ListN.{length, getD}
 use Rattle.pane.specs.Answers.{accepted}
-use Rattle.pane.specs.Shown.{textOf}
+use Rattle.text.specs.Shown.{textOf}
 use Rattle.console.specs.declared.clock.Clock.{Clock}
 
 -- what a letter says of BA: `ba_high`, `ba_high_phi1` and `ba_low` as bits 2, 1 and 0. h is high, l low, f falls, r rises;

@@ -5,9 +5,9 @@ use mathlib.Core.Bool.{Bool, true, false, cond}
 use mathlib.Core.List.{List, [], _∷_}
 use lib.Dec.{eqb, ltb}
 use lib.ListN.{length, getD}
-use Rattle.pane.specs.Faults.{faultOf}
-use Rattle.pane.specs.Shown.{_⊕_, ascii, fillOf}
-use Rattle.pane.specs.Typed.{same, wordOf, wordsOf}
+use Rattle.text.specs.Faults.{faultOf}
+use Rattle.text.specs.Shown.{_⊕_, ascii, fillOf}
+use Rattle.text.specs.Typed.{same, wordOf, wordsOf}
 use Rattle.console.specs.Clock.{isPattern}
 use Rattle.console.specs.Memory.{showFault, storeFault}
 use Rattle.console.specs.Registers.{readFault, writeFault}

@@ -4,7 +4,7 @@ use mathlib.Core.Bool.{cond}
 use mathlib.Core.List.{List, _++_}
 use lib.Dec.{eqb}
 use lib.ListN.{length, take, drop}
-use Rattle.pane.specs.Shown.{_⊕_, ascii}
+use Rattle.text.specs.Shown.{_⊕_, ascii}
 
 -- 0 is the image, 1 the bus, 2 the storage
 abbrev pub partName : List ℕ → ℕ → List ℕ

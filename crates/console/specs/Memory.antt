@@ -4,10 +4,10 @@ use mathlib.Core.Bool.{Bool, cond}
 use mathlib.Core.List.{List, [], _∷_}
 use lib.Dec.{eqb, ltb, leb}
 use lib.ListN.{set}
-use Rattle.pane.specs.Faults.{faultOf, faultsOf, orElse}
+use Rattle.text.specs.Faults.{faultOf, faultsOf, orElse}
 use Rattle.pane.specs.Rows.{byteAt}
-use Rattle.pane.specs.Shown.{_⊕_, ascii, hexOf, fillOf}
-use Rattle.pane.specs.Typed.{numberOf, valueOf, wordOf, wordsOf}
+use Rattle.text.specs.Shown.{_⊕_, ascii, hexOf, fillOf}
+use Rattle.text.specs.Typed.{numberOf, valueOf, wordOf, wordsOf}
 
 -- the address is the second word, the bytes are the words after it
 abbrev pub address : List ℕ → ℕ

@@ -2,7 +2,7 @@
 use Prim.Native.Nat.{ℕ}
 use mathlib.Core.Bool.{cond}
 use mathlib.Core.List.{List, []}
-use Rattle.pane.specs.Shown.{_⊕_, ascii, decimalOf}
+use Rattle.text.specs.Shown.{_⊕_, ascii, decimalOf}
 use Rattle.console.specs.Commands.{isComment}
 
 -- the number of the next cycle

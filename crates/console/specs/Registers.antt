@@ -5,9 +5,9 @@ use mathlib.Core.List.{List, []}
 use lib.Dec.{eqb}
 use Rattle.reu.specs.Exports.{reuRead, reuStoragePresent, reuWrite}
 use Rattle.pane.specs.Answers.{accepted, refusedBy}
-use Rattle.pane.specs.Faults.{faultOf, orElse}
-use Rattle.pane.specs.Shown.{_⊕_, ascii, hexOf, fillOf}
-use Rattle.pane.specs.Typed.{numberOf, valueOf, wordOf, wordsOf}
+use Rattle.text.specs.Faults.{faultOf, orElse}
+use Rattle.text.specs.Shown.{_⊕_, ascii, hexOf, fillOf}
+use Rattle.text.specs.Typed.{numberOf, valueOf, wordOf, wordsOf}
 use Rattle.console.specs.Memory.{address, bytesOf, each, storeFault}
 
 -- one write after another, at one address after another

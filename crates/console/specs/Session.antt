@@ -5,7 +5,7 @@ use mathlib.Core.Bool.{Bool, true, cond}
 use mathlib.Core.List.{List, []}
 use lib.Dec.{eqb, ltb}
 use lib.ListN.{length}
-use Rattle.pane.specs.Typed.{wordOf}
+use Rattle.text.specs.Typed.{wordOf}
 use Rattle.console.specs.declared.session.Session.{Session}
 use Rattle.console.specs.Apply.{Outcome, applyOf, countOr, stepOutcome}
 use Rattle.console.specs.Clock.{Time, timeOf}

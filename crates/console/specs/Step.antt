@@ -9,7 +9,7 @@ use Rattle.image.specs.Layout.{placeOf, transferExp}
 use Rattle.reu.specs.Exports.{refusalUnit, reuBusAction, reuC64Access, reuCycle, reuDmaActive}
 use Rattle.pane.specs.Answers.{accepted, refusedBy}
 use Rattle.pane.specs.Rows.{byteAt, copyOf, longAt}
-use Rattle.pane.specs.Shown.{_⊕_, ascii, decimalOf, hexOf}
+use Rattle.text.specs.Shown.{_⊕_, ascii, decimalOf, hexOf}
 use Rattle.console.specs.declared.clock.Clock.{Clock}
 use Rattle.console.specs.declared.step.Cycle.{Cycle}
 use Rattle.console.specs.declared.step.Run.{Run}

@@ -1,10 +1,10 @@
 // Two panes side by side: a row, and beside it what another machine has there, or what the row was before.
-use pane::line::Line;
 use pane::rows::LABEL;
+use text::line::Line;
 ghost use mathlib.Core.Path.{_≡_};
 ghost use mathlib.Core.Bool.{cond};
-ghost use Rattle.pane.specs.Shown.{textOf};
-ghost use Rattle.pane.specs.Typed.{same};
+ghost use Rattle.text.specs.Shown.{textOf};
+ghost use Rattle.text.specs.Typed.{same};
 ghost use Rattle.console.specs.Beside.{besideRow, isShown, labelled, marked, twoRows};
 
 // What stands between two panes of which every row is shown; with any other sign only rows that differ are.

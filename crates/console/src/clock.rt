@@ -1,11 +1,11 @@
 // Time: the number of the next cycle, and the BA inputs of those to come.
-use pane::line::Line;
+use text::line::Line;
 ghost use mathlib.Core.Path.{_≡_};
 ghost use mathlib.Core.Bool.{cond};
 ghost use mathlib.Core.List.{[]};
 ghost use Prim.Native.Nat.{_+_, _≤_};
 ghost use lib.Dec.{ltb};
-ghost use Rattle.pane.specs.Shown.{textOf};
+ghost use Rattle.text.specs.Shown.{textOf};
 ghost use Rattle.console.specs.Clock.{inputsOf, isPattern, letterOf, nextClock};
 
 pub struct Clock {

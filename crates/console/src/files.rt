@@ -1,8 +1,8 @@
 // The three files of a saved machine.
-use pane::line::Line;
-use pane::line::first;
+use text::line::Line;
+use text::line::first;
 ghost use mathlib.Core.Path.{_≡_};
-ghost use Rattle.pane.specs.Shown.{textOf};
+ghost use Rattle.text.specs.Shown.{textOf};
 ghost use Rattle.console.specs.Files.{copiedOver, partName};
 
 // Their names: 0 is the image's, 1 the bus's, 2 the storage's.

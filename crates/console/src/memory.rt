@@ -1,10 +1,10 @@
 // Bytes of the bus and of the storage, and the words of a line as bytes.
-use pane::faults::fault;
-use pane::faults::faults;
-use pane::faults::value;
-use pane::line::Line;
-use pane::line::fill;
 use pane::rows::byte;
+use text::faults::fault;
+use text::faults::faults;
+use text::faults::value;
+use text::line::Line;
+use text::line::fill;
 ghost use mathlib.Core.Path.{_≡_};
 ghost use mathlib.Core.Bool.{cond};
 ghost use Prim.Native.Nat.{_+_, _-_, _≤_, min};
@@ -12,7 +12,7 @@ ghost use lib.Dec.{leb};
 ghost use lib.ListN.{length, replicate};
 ghost use lib.ListN.{set as ListN·set};
 ghost use Rattle.pane.specs.Rows.{byteAt};
-ghost use Rattle.pane.specs.Shown.{_⊕_, ascii, hexOf, textOf};
+ghost use Rattle.text.specs.Shown.{_⊕_, ascii, hexOf, textOf};
 ghost use Rattle.console.specs.Memory.{address, addressText, bytesLine, endOf, rangeFault, showFault, storeFault, stored, typed};
 
 // The last address of the bus, and the last offset of the storage.

@@ -1,9 +1,9 @@
 // What stands before a command, and the program's own argument.
 use crate::commands::is_comment;
-use pane::line::Line;
+use text::line::Line;
 ghost use mathlib.Core.Path.{_≡_};
-ghost use Rattle.pane.specs.Shown.{ascii, textOf};
-ghost use Rattle.pane.specs.Typed.{same};
+ghost use Rattle.text.specs.Shown.{ascii, textOf};
+ghost use Rattle.text.specs.Typed.{same};
 ghost use Rattle.console.specs.Prompt.{echoOf, promptOf};
 
 pub fn prompt(cycle: u64) -> Line

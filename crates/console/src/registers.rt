@@ -4,12 +4,12 @@ use crate::memory::byte_of;
 use crate::memory::store_fault;
 use pane::answers::is_accepted;
 use pane::answers::refusal;
-use pane::faults::fault;
-use pane::faults::value;
-use pane::line::Line;
-use pane::line::fill;
+use text::faults::fault;
+use text::faults::value;
+use text::line::Line;
+use text::line::fill;
 ghost use mathlib.Core.Path.{_≡_};
-ghost use Rattle.pane.specs.Shown.{textOf};
+ghost use Rattle.text.specs.Shown.{textOf};
 ghost use Rattle.console.specs.Registers.{afterRead, placeFault, readFault, readText, warningOf, writeFault, written};
 
 // What is wrong with a register's address: no bytes where nothing is.

@@ -8,12 +8,12 @@ use crate::commands::is_comment;
 use crate::commands::line_fault;
 use crate::commands::place;
 use crate::keys;
-use pane::line::Line;
+use text::line::Line;
 ghost use mathlib.Core.Path.{_≡_};
 ghost use mathlib.Core.Bool.{false};
 ghost use mathlib.Core.List.{[]};
 ghost use Prim.Native.Nat.{_-_};
-ghost use Rattle.pane.specs.Shown.{textOf};
+ghost use Rattle.text.specs.Shown.{textOf};
 ghost use Rattle.console.specs.Clock.{timeOf};
 ghost use Rattle.console.specs.Session.{cycleTurn, endedAfter, endedSession, heldOf, isDropped, obeyTurn, stepsOf, turnOf};
 

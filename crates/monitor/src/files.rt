@@ -6,9 +6,9 @@ use console::files::part_name;
 use console::memory::empty_bus;
 use console::memory::empty_storage;
 use image::layout::IMAGE_BYTES;
-use pane::line::Line;
-use pane::line::fill;
-use pane::line::first;
+use text::line::Line;
+use text::line::fill;
+use text::line::first;
 
 // ---- saving
 

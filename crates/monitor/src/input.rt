@@ -1,5 +1,5 @@
 // A line of commands, byte by byte, so that nothing past it is taken.
-use pane::line::Line;
+use text::line::Line;
 
 pub struct Input {
     pub line: Line,

@@ -12,9 +12,9 @@ use console::session::Session;
 use image::layout::IMAGE_BYTES;
 use output::say;
 use output::tell;
-use pane::line::Line;
-use pane::line::fill;
-use pane::line::first;
+use text::line::Line;
+use text::line::fill;
+use text::line::first;
 use turn::Terminal;
 use turn::turn;
 

@@ -6,10 +6,10 @@ use console::beside::mark;
 use console::memory::address_of;
 use console::memory::bytes_line;
 use console::memory::end_of;
-use pane::line::Line;
-use pane::line::first;
 use pane::rows::ROWS;
 use pane::rows::row;
+use text::line::Line;
+use text::line::first;
 
 pub(crate) fn tell(text: &[u8]) {
     io::write_all(1, text);

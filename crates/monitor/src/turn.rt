@@ -18,9 +18,9 @@ use console::prompt::echoed;
 use console::prompt::prompt;
 use console::session;
 use console::session::Session;
-use pane::line::Line;
-use pane::line::first;
 use pane::rows::copied;
+use text::line::Line;
+use text::line::first;
 
 // How commands are shown: in colour, and, where nobody typed them, each before its answer.
 pub struct Terminal {

@@ -1,10 +1,8 @@
--- Worked examples of the definitions, with what was expected written by hand: words, numbers, and rows of images.
+-- Worked examples of the definitions, with what was expected written by hand: rows of images.
 use mathlib.Core.Path.{_≡_, refl}
 use mathlib.Core.List.{List, [], _∷_, _++_}
 use Prim.Native.Nat.{ℕ}
 use lib.ListN.{replicate}
-use Rattle.pane.specs.declared.number.Number.the-variants.{Value, TooLarge, Bad}
-use Rattle.pane.specs.Faults.{faultOf, faultsFrom, faultsOf}
 use Rattle.controller.specs.Calls.{dmaActiveCall}
 use Rattle.transfer.specs.Dma.{typeOf}
 use Rattle.controller.specs.Refusals.{checked, refusalOf, wellFormed}
@@ -12,58 +10,7 @@ use Rattle.image.specs.Layout.{imageSize, reuAt}
 use Rattle.image.specs.Open.{bytesOk, imageOk, openImage}
 use Rattle.reu.specs.Exports.{code, look, reuDmaActive}
 use Rattle.pane.specs.Rows.{copyOf, flagsRow, heldRow, refusedRow, rowOf, runningRow, transferRow}
-use Rattle.pane.specs.Shown.{_⊕_, ascii, bitsFrom, bitsOf, decimalOf, decimalUpTo, fillFrom, hexOf}
-use Rattle.pane.specs.Typed.{digitsFrom, numberOf, wordFrom, wordOf, wordsFrom, wordsOf}
-
--- ---- what is typed
-
-second-word : wordOf 1 (ascii "w  DF02 00") ≡ ascii "DF02"
-unfolding wordFrom
-second-word = refl
-
-three-words : wordsOf (ascii " w DF02 00 ") ≡ 3
-unfolding wordsFrom
-three-words = refl
-
-sixteen : numberOf (ascii "+16") ≡ Value 16
-unfolding digitsFrom numberOf
-sixteen = refl
-
-with-dollar : numberOf (ascii "$10") ≡ Value 16
-unfolding digitsFrom numberOf
-with-dollar = refl
-
-no-digit : numberOf (ascii "1G") ≡ Bad
-unfolding digitsFrom numberOf
-no-digit = refl
-
-too-many-bits : numberOf (ascii "1000000") ≡ TooLarge
-unfolding digitsFrom numberOf
-too-many-bits = refl
-
-second-number-is-bad :
-    faultsOf (ascii "> 1000 11 1G") 2 255
-    ≡ ascii "bad number: 1G (hexadecimal, $ optional; decimal with a leading +)"
-unfolding faultsFrom faultOf wordsFrom wordFrom numberOf digitsFrom fillFrom _⊕_
-second-number-is-bad = refl
-
--- ---- what is shown
-
-an-address : hexOf 4 0xDF0A ≡ ascii "DF0A"
-unfolding hexOf
-an-address = refl
-
-a-cycle : decimalOf 105 ≡ ascii "+105"
-unfolding decimalUpTo
-a-cycle = refl
-
-the-first-cycle : decimalOf 0 ≡ ascii "+0"
-unfolding decimalUpTo
-the-first-cycle = refl
-
-end-of-block : bitsOf " irq=7 end=6 err=5 ver=4" 0x50 ≡ ascii " irq=0 end=1 err=0 ver=1"
-unfolding bitsFrom
-end-of-block = refl
+use Rattle.text.specs.Shown.{_⊕_, ascii, bitsFrom, decimalUpTo, hexOf}
 
 -- flags 0D: enabled, attached, armed; a swap of two bytes in its write phase at bus 2000 and expansion F80000
 unfoldable image : List ℕ

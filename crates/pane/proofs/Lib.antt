@@ -1,10 +1,4 @@
-pub mod Bits
 pub mod Copies
-pub mod Cuts
-pub mod Decimals
-pub mod Digits
 pub mod Examples
 pub mod Pane
 pub mod Refused
-pub mod Tables
-pub mod Words

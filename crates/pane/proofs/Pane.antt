@@ -8,7 +8,7 @@ use Rattle.reu.specs.Exports.{reuDmaActive}
 use Rattle.pane.specs.Answers.{accepted}
 use Rattle.pane.specs.Rows.{heldRow, refusedRow, rowOf}
 use Rattle.pane.specs.Rows.{held, reads, registerName, registerRow, spelled}
-use Rattle.pane.specs.Shown.{_⊕_, ascii, hexOf}
+use Rattle.text.specs.Shown.{_⊕_, ascii, hexOf}
 
 -- a counter and its shadow, behind a text
 pub counter :

@@ -4,7 +4,7 @@ use mathlib.Core.Bool.{Bool}
 use mathlib.Core.List.{List, _++_}
 use lib.Dec.{ltb}
 use Rattle.reu.specs.Exports.{refusalUnit}
-use Rattle.pane.specs.Shown.{ascii, decimalUpTo}
+use Rattle.text.specs.Shown.{ascii, decimalUpTo}
 
 -- a value: no refusal
 abbrev pub accepted : ℕ → Bool

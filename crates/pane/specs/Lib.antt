@@ -1,5 +1,2 @@
 pub mod Answers
-pub mod Faults
 pub mod Rows
-pub mod Shown
-pub mod Typed

@@ -9,7 +9,7 @@ use Rattle.transfer.specs.Constants.{status, command, c64Low, expLow, lengthLow
 use Rattle.image.specs.Layout.{imageSize, placeOf, shadowC64, shadowExp, shadowLength, flags, moreFlags, delay, transfer, kind, phase, transferC64, transferExp, remaining, latch, options}
 use Rattle.reu.specs.Exports.{reuDebugRegister, reuDmaActive, reuRead}
 use Rattle.pane.specs.Answers.{accepted, refusedBy}
-use Rattle.pane.specs.Shown.{_⊕_, ascii, bitsOf, hexOf}
+use Rattle.text.specs.Shown.{_⊕_, ascii, bitsOf, hexOf}
 
 -- ---- the numbers of one, two and three bytes that stand at a place
 

@@ -1,8 +1,8 @@
 // What an exported call answers: a value, or that it was refused, and by which number.
-use crate::line::Line;
+use text::line::Line;
 ghost use mathlib.Core.Path.{_≡_};
 ghost use Rattle.pane.specs.Answers.{accepted, refusedBy};
-ghost use Rattle.pane.specs.Shown.{_⊕_, textOf};
+ghost use Rattle.text.specs.Shown.{_⊕_, textOf};
 
 // An answer of this or more is a refusal.
 pub const REFUSAL_UNIT: u32 = 16777216;

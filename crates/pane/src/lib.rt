@@ -1,6 +1,3 @@
-// What the monitor shows and what it is told, as text: lines, numbers, and the rows of the register pane.
+// The register pane: its rows, and what a call's answer says.
 pub mod answers;
-pub mod faults;
-pub mod line;
-pub mod number;
 pub mod rows;

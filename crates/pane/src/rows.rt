@@ -2,8 +2,8 @@
 // Every number is looked up in the image at the moment that the row is made.
 use crate::answers::is_accepted;
 use crate::answers::refusal;
-use crate::line::Line;
 use image::layout;
+use text::line::Line;
 ghost use mathlib.Core.Path.{_≡_};
 ghost use mathlib.Core.List.{[]};
 ghost use Prim.Native.Nat.{_%_, _<_, _≤_};
@@ -11,7 +11,7 @@ ghost use lib.ListN.{length};
 ghost use Rattle.image.specs.Layout.{imageSize, placeOf, transferExp};
 ghost use Rattle.pane.specs.Rows.{byteAt, copyOf, flagsRow, heldRow, longAt, reads, refusedRow, registerName, registerRow, rowOf, runningRow, transferRow, typeName, wordAt};
 ghost use Rattle.pane.specs.Rows.{held as Rows·held, spelled as Rows·spelled};
-ghost use Rattle.pane.specs.Shown.{_⊕_, ascii, bitsOf, hexOf, textOf};
+ghost use Rattle.text.specs.Shown.{_⊕_, ascii, bitsOf, hexOf, textOf};
 
 pub const ROWS: usize = 22;
 // Where a row's label ends: what follows differs from machine to machine.

@@ -7,8 +7,8 @@ use native.Mathlib.Omega.{arith}
 use lib.Dec.{eqb}
 use lib.ListN.{length, getD}
 use borrow.Author.Tests.{lt-ltb, ne-eqb}
-use Rattle.pane.specs.Shown.{ascii}
-use Rattle.pane.specs.Typed.{same, wordOf}
+use Rattle.text.specs.Shown.{ascii}
+use Rattle.text.specs.Typed.{same, wordOf}
 use Rattle.console.specs.declared.session.Session.{Session}
 use Rattle.console.specs.Apply.{applyOf, controlOf, countOr, stepOutcome}
 use Rattle.console.specs.Clock.{timeOf}

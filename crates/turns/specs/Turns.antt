@@ -4,7 +4,7 @@ use Prim.Native.Nat.{ℕ, zero, suc, _-_, _≤_}
 use mathlib.Core.Path.{_≡_}
 use mathlib.Core.Bool.{true}
 use mathlib.Core.List.{List, []}
-use Rattle.pane.specs.Typed.{wordOf}
+use Rattle.text.specs.Typed.{wordOf}
 use Rattle.console.specs.declared.session.Session.{Session}
 use Rattle.console.specs.Apply.{countOr}
 use Rattle.console.specs.Commands.{is, lineFault}

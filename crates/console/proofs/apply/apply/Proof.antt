@@ -2,8 +2,8 @@ use mathlib.Core.Path.{_≡_, refl, ap}
 use mathlib.Core.List.{List}
 use Prim.Native.Nat.{ℕ, _<_}
 use native.Mathlib.Omega.{arith}
-use Rattle.pane.specs.Shown.{ascii, textOf}
-use Rattle.pane.specs.Typed.{same, wordOf}
+use Rattle.text.specs.Shown.{ascii, textOf}
+use Rattle.text.specs.Typed.{same, wordOf}
 use Rattle.console.specs.Apply.{Outcome, applyOf}
 use Rattle.console.specs.Commands.{nameAt}
 use Rattle.console.specs.Clock.{Time}

@@ -1,4 +1,4 @@
-use Rattle.pane.proofs.Cuts.{then}
+use Rattle.text.proofs.Cuts.{then}
 use Rattle.console.proofs.Outcomes.{ran, waits}
 use borrow.Author.Needs.{needs}
 use Rattle.console.proofs.apply.run_command.Statement.{statement}

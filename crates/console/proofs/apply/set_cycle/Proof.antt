@@ -1,6 +1,6 @@
 use mathlib.Core.Path.{refl}
-use Rattle.pane.specs.Shown.{textOf}
-use Rattle.pane.proofs.Cuts.{then}
+use Rattle.text.specs.Shown.{textOf}
+use Rattle.text.proofs.Cuts.{then}
 use borrow.Author.Tests.{eq-eqb, ne-eqb}
 use borrow.Author.Needs.{needs}
 use Rattle.console.proofs.apply.set_cycle.Statement.{statement}

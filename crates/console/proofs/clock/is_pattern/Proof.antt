@@ -3,7 +3,7 @@ use mathlib.Core.Path.{_≡_, refl}
 use Prim.Native.Nat.{_-_}
 use native.Mathlib.Omega.{arith}
 use lib.ListN.{drop}
-use Rattle.pane.specs.Shown.{textOf}
+use Rattle.text.specs.Shown.{textOf}
 use Rattle.console.specs.Clock.{isPattern}
 use Rattle.console.proofs.Letters.{more, other, done}
 use Rattle.console.proofs.clock.is_pattern.Statement.{statement}

@@ -3,8 +3,8 @@ use mathlib.Core.Path.{_≡_, refl}
 use mathlib.Core.List.{List}
 use Prim.Native.Nat.{ℕ, _<_}
 use native.Mathlib.Omega.{arith}
-use Rattle.pane.specs.Shown.{ascii, textOf}
-use Rattle.pane.specs.Typed.{same, wordOf}
+use Rattle.text.specs.Shown.{ascii, textOf}
+use Rattle.text.specs.Typed.{same, wordOf}
 use Rattle.console.specs.Commands.{commandFault, nameAt}
 use Rattle.console.proofs.Names.{named, other}
 use Rattle.console.proofs.commands.command_fault.Statement.{statement}

@@ -1,5 +1,5 @@
 use borrow.Author.Needs.{needs}
-use Rattle.pane.proofs.Cuts.{then}
+use Rattle.text.proofs.Cuts.{then}
 use borrow.Author.Tests.{lt-ltb, le-ltb}
 use Rattle.console.specs.Commands.{lineFault}
 use Rattle.console.proofs.commands.line_fault.Statement.{statement}

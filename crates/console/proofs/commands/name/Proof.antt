@@ -2,8 +2,8 @@ use borrow.Author.Needs.{needs}
 use mathlib.Core.Path.{_≡_, _∙_, ap}
 use mathlib.Core.List.{List}
 use Prim.Native.Nat.{ℕ}
-use Rattle.pane.specs.Shown.{_⊕_, textOf}
-use Rattle.pane.specs.Typed.{wordOf}
+use Rattle.text.specs.Shown.{_⊕_, textOf}
+use Rattle.text.specs.Typed.{wordOf}
 use Rattle.console.specs.Commands.{names}
 use Rattle.console.proofs.Names.{joined, nth-word}
 use Rattle.console.proofs.commands.name.Statement.{statement}

@@ -4,8 +4,8 @@ use mathlib.Core.Bool.{Bool, true}
 use mathlib.Core.List.{List, [], _∷_}
 use Prim.Native.Nat.{ℕ, _<_}
 use native.Mathlib.Omega.{arith}
-use Rattle.pane.specs.Shown.{ascii, textOf}
-use Rattle.pane.specs.Typed.{same, wordOf}
+use Rattle.text.specs.Shown.{ascii, textOf}
+use Rattle.text.specs.Typed.{same, wordOf}
 use Rattle.console.specs.Commands.{exactly, nameAt, oneOf, otherFault}
 use Rattle.console.proofs.Names.{named, other}
 use Rattle.console.proofs.commands.other_fault.Statement.{statement}

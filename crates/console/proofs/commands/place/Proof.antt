@@ -4,8 +4,8 @@ use mathlib.Core.List.{List}
 use Prim.Native.Nat.{ℕ, _-_}
 use native.Mathlib.Nat.{zero-add}
 use native.Mathlib.Omega.{arith}
-use Rattle.pane.specs.Shown.{textOf}
-use Rattle.pane.specs.Typed.{same}
+use Rattle.text.specs.Shown.{textOf}
+use Rattle.text.specs.Typed.{same}
 use Rattle.console.specs.Commands.{placeOf}
 use Rattle.console.proofs.Names.{From, here, onward, ended}
 use Rattle.console.proofs.commands.place.Statement.{statement}

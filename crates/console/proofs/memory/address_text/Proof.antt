@@ -1,4 +1,4 @@
-use Rattle.pane.proofs.Cuts.{then}
+use Rattle.text.proofs.Cuts.{then}
 use borrow.Author.Needs.{needs}
 use Rattle.console.proofs.memory.address_text.Statement.{statement}
 use Rattle.console.proofs.memory.address_text.Tie as tie

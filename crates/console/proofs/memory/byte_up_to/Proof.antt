@@ -1,4 +1,4 @@
-use Rattle.pane.proofs.Cuts.{then}
+use Rattle.text.proofs.Cuts.{then}
 use borrow.Author.Tests.{le-leb, lt-leb}
 use borrow.Author.Needs.{needs}
 use Rattle.console.proofs.memory.byte_up_to.Statement.{statement}

@@ -1,6 +1,6 @@
 use mathlib.Core.Path.{_≡_}
 use Prim.Native.Nat.{_+_, _-_}
-use Rattle.pane.specs.Shown.{textOf}
+use Rattle.text.specs.Shown.{textOf}
 use Rattle.console.specs.Memory.{bytesLine, bytesText}
 use Rattle.console.proofs.Bytes.{begun, onward, ended}
 use borrow.Author.Needs.{needs}

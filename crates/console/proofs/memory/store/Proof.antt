@@ -1,6 +1,6 @@
 use Prim.Native.Nat.{_-_}
 use lib.ListN.{set}
-use Rattle.pane.specs.Shown.{textOf}
+use Rattle.text.specs.Shown.{textOf}
 use Rattle.console.proofs.Each.{Left, begun, onward, ended}
 use borrow.Author.Needs.{needs}
 use Rattle.console.proofs.memory.store.Statement.{statement}

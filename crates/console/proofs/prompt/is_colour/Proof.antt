@@ -2,8 +2,8 @@ use borrow.Author.Needs.{needs}
 use mathlib.Core.Path.{_≡_, ap, _∙_}
 use mathlib.Core.List.{List}
 use Prim.Native.Nat.{ℕ}
-use Rattle.pane.specs.Shown.{_⊕_, ascii, textOf}
-use Rattle.pane.specs.Typed.{same}
+use Rattle.text.specs.Shown.{_⊕_, ascii, textOf}
+use Rattle.text.specs.Typed.{same}
 use Rattle.console.proofs.prompt.is_colour.Statement.{statement}
 use Rattle.console.proofs.prompt.is_colour.Tie as tie
 

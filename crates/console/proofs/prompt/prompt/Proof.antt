@@ -1,5 +1,5 @@
 use borrow.Author.Needs.{needs}
-use Rattle.pane.proofs.Cuts.{then}
+use Rattle.text.proofs.Cuts.{then}
 use Rattle.console.proofs.prompt.prompt.Statement.{statement}
 use Rattle.console.proofs.prompt.prompt.Tie as tie
 

@@ -1,8 +1,8 @@
 use borrow.Author.Needs.{needs}
 use mathlib.Core.Path.{refl}
 use native.Mathlib.Omega.{arith}
-use Rattle.pane.specs.Shown.{ascii}
-use Rattle.pane.specs.Typed.{same}
+use Rattle.text.specs.Shown.{ascii}
+use Rattle.text.specs.Typed.{same}
 use Rattle.console.specs.Commands.{is}
 use Rattle.console.specs.Session.{stepsOf}
 use Rattle.console.proofs.Names.{named, other}

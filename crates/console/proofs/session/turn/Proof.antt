@@ -1,6 +1,6 @@
 use borrow.Author.Needs.{needs}
 use mathlib.Core.Path.{_∙_, ap}
-use Rattle.pane.specs.Shown.{textOf}
+use Rattle.text.specs.Shown.{textOf}
 use Rattle.console.specs.Session.{isDropped}
 use Rattle.console.proofs.Turns.{forgets, no-line, obeys, steps}
 use Rattle.console.proofs.session.turn.Statement.{statement}

@@ -1,5 +1,5 @@
 use Rattle.console.specs.Step.{baText}
-use Rattle.pane.proofs.Cuts.{then}
+use Rattle.text.proofs.Cuts.{then}
 use borrow.Author.Tests.{ne-eqb}
 use borrow.Author.Needs.{needs}
 use Rattle.console.proofs.step.ba_text.Statement.{statement}

@@ -1,5 +1,5 @@
 use Rattle.console.specs.Step.{bytesThere}
-use Rattle.pane.proofs.Cuts.{then}
+use Rattle.text.proofs.Cuts.{then}
 use borrow.Author.Tests.{eq-eqb, ne-eqb}
 use borrow.Author.Needs.{needs}
 use Rattle.console.proofs.step.bytes_there.Statement.{statement}

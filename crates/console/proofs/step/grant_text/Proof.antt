@@ -1,7 +1,7 @@
 use lib.ListN.{List·getD-eq-default}
 use Rattle.console.specs.Step.{grantText}
-use Rattle.pane.proofs.Tables.{entry, past}
-use Rattle.pane.proofs.Cuts.{then}
+use Rattle.text.proofs.Tables.{entry, past}
+use Rattle.text.proofs.Cuts.{then}
 use Prim.Native.Nat.{_≤_}
 use borrow.Author.Needs.{needs}
 use Rattle.console.proofs.step.grant_text.Statement.{statement}

@@ -1,6 +1,6 @@
 use mathlib.Core.Path.{sym, _∙_}
 use Rattle.console.specs.Step.{runLine}
-use Rattle.pane.proofs.Cuts.{then}
+use Rattle.text.proofs.Cuts.{then}
 use borrow.Author.Tests.{eq-eqb, ne-eqb}
 use borrow.Author.Needs.{needs}
 use Rattle.console.proofs.step.run_line.Statement.{statement}

@@ -1,5 +1,5 @@
 use borrow.Author.Needs.{needs}
-use Rattle.pane.proofs.Cuts.{joined}
+use Rattle.text.proofs.Cuts.{joined}
 use Rattle.pane.proofs.answers.refusal.Statement.{statement}
 use Rattle.pane.proofs.answers.refusal.Tie as tie
 

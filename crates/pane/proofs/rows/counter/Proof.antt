@@ -1,4 +1,4 @@
-use Rattle.pane.proofs.Cuts.{then}
+use Rattle.text.proofs.Cuts.{then}
 use borrow.Author.Needs.{needs}
 use Rattle.pane.proofs.rows.counter.Statement.{statement}
 use Rattle.pane.proofs.rows.counter.Tie as tie

@@ -1,5 +1,5 @@
 use Rattle.pane.specs.Rows.{flagsRow}
-use Rattle.pane.proofs.Cuts.{then}
+use Rattle.text.proofs.Cuts.{then}
 use borrow.Author.Tests.{ne-eqb}
 use borrow.Author.Needs.{needs}
 use Rattle.pane.proofs.rows.flags_row.Statement.{statement}

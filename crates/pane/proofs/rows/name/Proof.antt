@@ -3,9 +3,9 @@ use mathlib.Core.List.{List, []}
 use Prim.Native.Nat.{ℕ}
 use native.Mathlib.Omega.{arith}
 use Rattle.pane.specs.Rows.{registerName, registerNames}
-use Rattle.pane.specs.Shown.{_⊕_, ascii, hexOf, textOf}
-use Rattle.pane.proofs.Cuts.{then}
-use Rattle.pane.proofs.Tables.{cut-out}
+use Rattle.text.specs.Shown.{_⊕_, ascii, hexOf, textOf}
+use Rattle.text.proofs.Cuts.{then}
+use Rattle.text.proofs.Tables.{cut-out}
 use borrow.Author.Needs.{needs}
 use Rattle.pane.proofs.rows.name.Statement.{statement}
 use Rattle.pane.proofs.rows.name.Tie as tie

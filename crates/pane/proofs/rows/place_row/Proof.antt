@@ -1,4 +1,4 @@
-use Rattle.pane.proofs.Cuts.{then}
+use Rattle.text.proofs.Cuts.{then}
 use borrow.Author.Needs.{needs}
 use Rattle.pane.proofs.rows.place_row.Statement.{statement}
 use Rattle.pane.proofs.rows.place_row.Tie as tie

@@ -1,4 +1,4 @@
-use Rattle.pane.proofs.Cuts.{then}
+use Rattle.text.proofs.Cuts.{then}
 use Rattle.pane.proofs.Pane.{agrees, differs}
 use borrow.Author.Needs.{needs}
 use Rattle.pane.proofs.rows.register_row.Statement.{statement}

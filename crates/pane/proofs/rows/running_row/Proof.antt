@@ -1,5 +1,5 @@
 use Rattle.pane.specs.Rows.{runningRow}
-use Rattle.pane.proofs.Cuts.{then}
+use Rattle.text.proofs.Cuts.{then}
 use borrow.Author.Tests.{eq-eqb, ne-eqb}
 use borrow.Author.Needs.{needs}
 use Rattle.pane.proofs.rows.running_row.Statement.{statement}

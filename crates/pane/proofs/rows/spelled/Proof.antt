@@ -1,5 +1,5 @@
 use Rattle.pane.specs.Rows.{spelled}
-use Rattle.pane.proofs.Cuts.{then}
+use Rattle.text.proofs.Cuts.{then}
 use Rattle.pane.proofs.Pane.{counter}
 use borrow.Author.Tests.{ne-eqb}
 use borrow.Author.Needs.{needs}

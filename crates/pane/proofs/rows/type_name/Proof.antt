@@ -1,6 +1,6 @@
 use Prim.Native.Nat.{_≤_}
-use Rattle.pane.proofs.Cuts.{then}
-use Rattle.pane.proofs.Tables.{entry, past}
+use Rattle.text.proofs.Cuts.{then}
+use Rattle.text.proofs.Tables.{entry, past}
 use Rattle.pane.specs.Rows.{typeName}
 use lib.ListN.{List·getD-eq-default}
 use borrow.Author.Needs.{needs}

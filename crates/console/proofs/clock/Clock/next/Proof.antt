@@ -4,7 +4,7 @@ use mathlib.Core.Bool.{cond}
 use Prim.Native.Nat.{_+_}
 use lib.Dec.{ltb}
 use lib.ListN.{length}
-use Rattle.pane.specs.Shown.{textOf}
+use Rattle.text.specs.Shown.{textOf}
 use Rattle.console.proofs.clock.Clock.next.Statement.{statement}
 use Rattle.console.proofs.clock.Clock.next.Tie as tie
 
