@@ -1,13 +1,7 @@
 pub mod Asked
-pub mod Bytes
-pub mod Copies
 pub mod Cycles
-pub mod Each
 pub mod Examples
-pub mod Letters
-pub mod Names
 pub mod Outcomes
 pub mod Read
 pub mod Runs
-pub mod Sides
 pub mod Turns

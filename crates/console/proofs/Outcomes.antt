@@ -5,11 +5,11 @@ use Prim.Native.Nat.{ℕ}
 use borrow.Author.Tests.{eq-eqb, ne-eqb}
 use Rattle.reu.specs.Exports.{reuDmaActive}
 use Rattle.text.specs.Shown.{_⊕_, ascii}
-use Rattle.console.specs.declared.clock.Clock.{Clock}
+use Rattle.lines.specs.declared.clock.Clock.{Clock}
 use Rattle.console.specs.declared.step.Cycle.{Cycle}
 use Rattle.console.specs.Apply.{Outcome, countOr, goOutcome, stepOutcome}
-use Rattle.console.specs.Clock.{Time, inputsOf, letterOf, timeAfter, timeOf}
-use Rattle.console.specs.Step.{Running, cycleLine, cycleOf, goOf, runLine, started}
+use Rattle.lines.specs.Clock.{Time, inputsOf, letterOf, timeOf}
+use Rattle.console.specs.Step.{Running, cycleLine, cycleOf, goOf, runLine, started, timeAfter}
 
 -- the time, what is said, the image, the bus and the storage
 pub outcome : {t t' : Time} {l l' i i' m m' s s' : List ℕ} → t ≡ t' → l ≡ l' → i ≡ i' → m ≡ m' → s ≡ s'

@@ -7,7 +7,7 @@ use Rattle.reu.specs.Exports.{reuRead}
 use Rattle.pane.specs.Answers.{accepted, refusedBy}
 use Rattle.text.specs.Shown.{_⊕_, fillOf, hexOf}
 use Rattle.text.specs.Typed.{wordOf}
-use Rattle.console.specs.Memory.{address}
+use Rattle.lines.specs.Memory.{address}
 use Rattle.console.specs.Registers.{afterRead, readText}
 
 module _ (t i : List ℕ) {a answer : ℕ} {left : List ℕ} (p : a ≡ address t) (r : (answer, left) ≡ reuRead i (a % 65536)) where

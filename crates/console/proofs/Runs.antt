@@ -19,11 +19,11 @@ use Rattle.pane.specs.Rows.{copyOf, longAt}
 use Rattle.text.specs.Shown.{_⊕_, decimalOf}
 use Rattle.transfer.specs.Bytes.{bit, bitOf}
 use Rattle.transfer.proofs.Bits.{bit-digit, low-digit}
-use Rattle.console.specs.declared.clock.Clock.{Clock}
+use Rattle.lines.specs.declared.clock.Clock.{Clock}
 use Rattle.console.specs.declared.step.Cycle.{Cycle}
 use Rattle.console.specs.declared.step.Run.{Run}
-use Rattle.console.specs.Clock.{inputsOf, letterOf, nextClock, timeAfter, timeOf}
-use Rattle.console.specs.Step.{Running, accessText, advanced, askedOf, baText, bytesThere, counted, cycleLine, cycleOf, goOf, grantText, refusedCycle}
+use Rattle.lines.specs.Clock.{inputsOf, letterOf, nextClock, timeOf}
+use Rattle.console.specs.Step.{Running, accessText, advanced, askedOf, baText, bytesThere, counted, cycleLine, cycleOf, goOf, grantText, refusedCycle, timeAfter}
 use Rattle.console.proofs.Cycles.{asking-changes-nothing, other-bus}
 
 -- the grant that is asked for, with the access and the offset; the inputs are bits, which the code takes as digits

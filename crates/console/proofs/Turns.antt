@@ -7,7 +7,7 @@ use borrow.Author.Tests.{lt-ltb, le-ltb}
 use Rattle.text.specs.Typed.{wordOf}
 use Rattle.console.specs.declared.session.Session.{Session}
 use Rattle.console.specs.Apply.{Outcome, applyOf, stepOutcome}
-use Rattle.console.specs.Commands.{lineFault}
+use Rattle.lines.specs.Commands.{lineFault}
 use Rattle.console.specs.Session.{Turn, cycleTurn, droppedTurn, endedAfter, heldOf, isDropped, obeyTurn, stepsOf, turnOf}
 
 module _ (z : Session) (i m s : List ℕ) where

@@ -8,13 +8,13 @@ use Rattle.transfer.specs.Memory.{zeros}
 use Rattle.reu.specs.Exports.{reuDmaActive, reuNew, reuReset, reuSetEnabled, reuTriggerFf00}
 use Rattle.text.specs.Shown.{_⊕_, ascii, decimalOf, textOf}
 use Rattle.text.specs.Typed.{numberOf, valueOf, wordOf, wordsOf}
-use Rattle.console.specs.declared.clock.Clock.{Clock}
+use Rattle.lines.specs.declared.clock.Clock.{Clock}
 use Rattle.console.specs.declared.step.Cycle.{Cycle}
-use Rattle.console.specs.Clock.{Time, inputsOf, letterOf, timeAfter, timeOf}
-use Rattle.console.specs.Commands.{is, oneOf}
-use Rattle.console.specs.Memory.{address, stored}
+use Rattle.lines.specs.Clock.{Time, inputsOf, letterOf, timeOf}
+use Rattle.lines.specs.Commands.{is, oneOf}
+use Rattle.lines.specs.Memory.{address, stored}
 use Rattle.console.specs.Registers.{afterRead, readText, warningOf, written}
-use Rattle.console.specs.Step.{Running, cycleLine, cycleOf, goOf, runLine, started}
+use Rattle.console.specs.Step.{Running, cycleLine, cycleOf, goOf, runLine, started, timeAfter}
 
 -- the time, what is said, the image, the bus and the storage
 abbrev pub Outcome : Type 0

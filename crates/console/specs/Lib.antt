@@ -1,10 +1,4 @@
 pub mod Apply
-pub mod Beside
-pub mod Clock
-pub mod Commands
-pub mod Files
-pub mod Memory
-pub mod Prompt
 pub mod Registers
 pub mod Session
 pub mod Step

@@ -8,8 +8,8 @@ use lib.ListN.{length}
 use Rattle.text.specs.Typed.{wordOf}
 use Rattle.console.specs.declared.session.Session.{Session}
 use Rattle.console.specs.Apply.{Outcome, applyOf, countOr, stepOutcome}
-use Rattle.console.specs.Clock.{Time, timeOf}
-use Rattle.console.specs.Commands.{is, isComment, lineFault}
+use Rattle.lines.specs.Clock.{Time, timeOf}
+use Rattle.lines.specs.Commands.{is, isComment, lineFault}
 
 -- ---- the machine
 

@@ -8,12 +8,13 @@ use Rattle.transfer.specs.Bytes.{bit, bitOf}
 use Rattle.image.specs.Layout.{placeOf, transferExp}
 use Rattle.reu.specs.Exports.{refusalUnit, reuBusAction, reuC64Access, reuCycle, reuDmaActive}
 use Rattle.pane.specs.Answers.{accepted, refusedBy}
-use Rattle.pane.specs.Rows.{byteAt, copyOf, longAt}
+use Rattle.pane.specs.Rows.{copyOf, longAt}
+use Rattle.text.specs.Bytes.{byteAt}
 use Rattle.text.specs.Shown.{_⊕_, ascii, decimalOf, hexOf}
-use Rattle.console.specs.declared.clock.Clock.{Clock}
+use Rattle.lines.specs.declared.clock.Clock.{Clock}
 use Rattle.console.specs.declared.step.Cycle.{Cycle}
 use Rattle.console.specs.declared.step.Run.{Run}
-use Rattle.console.specs.Clock.{inputsOf, letterOf, nextClock}
+use Rattle.lines.specs.Clock.{Time, inputsOf, letterOf, nextClock, nextTime}
 
 -- ---- one cycle; the inputs are `ba_high`, `ba_high_phi1` and `ba_low` as bits 2, 1 and 0
 
@@ -33,6 +34,10 @@ unfoldable pub cycleOf : ℕ → ℕ → List ℕ → List ℕ → List ℕ → 
 cycleOf inputs number i m s =
     let k : (ℕ × List ℕ × List ℕ × List ℕ) = reuCycle i m s (bitOf (bit inputs 2)) number (bitOf (bit inputs 0)) (bitOf (bit inputs 1)) in
     (cond (accepted (k .0)) (askedOf inputs number i s .0) (refusedCycle (k .0)), k .1, k .2, k .3)
+
+-- the time after a cycle with this grant: one that was refused takes none
+unfoldable pub timeAfter : Time → ℕ → Time
+timeAfter t grant = cond (accepted grant) (nextTime t) t
 
 -- ---- one cycle, shown
 

@@ -1,15 +1,15 @@
 // What a command does to the machine and to the time, and what it says. Commands that only show, and those on files, are not here.
-use crate::clock::Clock;
-use crate::commands::place;
-use crate::keys;
-use crate::memory::address_of;
-use crate::memory::store;
 use crate::registers;
 use crate::step::after;
 use crate::step::cycle_line;
 use crate::step::go;
 use crate::step::run_cycle;
 use crate::step::run_line;
+use lines::clock::Clock;
+use lines::commands::place;
+use lines::keys;
+use lines::memory::address_of;
+use lines::memory::store;
 use text::faults::value;
 use text::line::Line;
 ghost use mathlib.Core.Path.{_≡_};
@@ -19,8 +19,8 @@ ghost use Rattle.text.specs.Shown.{textOf};
 ghost use Rattle.text.specs.Typed.{wordOf};
 ghost use Rattle.reu.specs.Exports.{reuNew, reuReset, reuSetEnabled, reuTriggerFf00};
 ghost use Rattle.console.specs.Apply.{applyOf, busHint, controlOf, countOr, cycleTime, cycleText, goOutcome, stepOutcome};
-ghost use Rattle.console.specs.Clock.{timeOf};
-ghost use Rattle.console.specs.Memory.{stored};
+ghost use Rattle.lines.specs.Clock.{timeOf};
+ghost use Rattle.lines.specs.Memory.{stored};
 ghost use Rattle.console.specs.Registers.{afterRead, readText, warningOf, written};
 
 // A swap of 65,536 bytes takes 131,072 cycles, and BA may hold it as long again.

@@ -3,18 +3,18 @@
 use crate::apply::apply;
 use crate::apply::count_or;
 use crate::apply::step;
-use crate::clock::Clock;
-use crate::commands::is_comment;
-use crate::commands::line_fault;
-use crate::commands::place;
-use crate::keys;
+use lines::clock::Clock;
+use lines::commands::is_comment;
+use lines::commands::line_fault;
+use lines::commands::place;
+use lines::keys;
 use text::line::Line;
 ghost use mathlib.Core.Path.{_≡_};
 ghost use mathlib.Core.Bool.{false};
 ghost use mathlib.Core.List.{[]};
 ghost use Prim.Native.Nat.{_-_};
 ghost use Rattle.text.specs.Shown.{textOf};
-ghost use Rattle.console.specs.Clock.{timeOf};
+ghost use Rattle.lines.specs.Clock.{timeOf};
 ghost use Rattle.console.specs.Session.{cycleTurn, endedAfter, endedSession, heldOf, isDropped, obeyTurn, stepsOf, turnOf};
 
 pub struct Session {

@@ -1,19 +1,19 @@
 // Bus cycles: one by one, or until the command ends.
-use crate::clock::Clock;
+use lines::clock::Clock;
 use pane::answers::REFUSAL_UNIT;
 use pane::answers::is_accepted;
 use pane::answers::refusal;
-use pane::rows::byte;
 use pane::rows::copied;
 use pane::rows::transfer_expansion;
+use text::bytes::byte;
 use text::line::Line;
 ghost use mathlib.Core.Path.{_≡_};
 ghost use mathlib.Core.Bool.{cond};
 ghost use lib.Dec.{eqb};
 ghost use Rattle.transfer.specs.Constants.{busSize};
 ghost use Rattle.text.specs.Shown.{_⊕_, textOf};
-ghost use Rattle.console.specs.Clock.{timeAfter, timeOf};
-ghost use Rattle.console.specs.Step.{accessText, advanced, askedOf, baText, bytesThere, counted, cycleLine, cycleOf, goOf, grantText, refusedCycle, runLine, started};
+ghost use Rattle.lines.specs.Clock.{timeOf};
+ghost use Rattle.console.specs.Step.{accessText, advanced, askedOf, baText, bytesThere, counted, cycleLine, cycleOf, goOf, grantText, refusedCycle, runLine, started, timeAfter};
 
 const TRANSFER: u32 = 2;
 

@@ -1,11 +1,11 @@
 // Saved machines: the image in a file, bus and storage in two files beside it.
 use crate::output::say;
 use crate::output::show_beside;
-use console::files::copy;
-use console::files::part_name;
-use console::memory::empty_bus;
-use console::memory::empty_storage;
 use image::layout::IMAGE_BYTES;
+use lines::files::copy;
+use lines::files::part_name;
+use lines::memory::empty_bus;
+use lines::memory::empty_storage;
 use text::line::Line;
 use text::line::fill;
 use text::line::first;

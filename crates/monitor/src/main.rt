@@ -5,11 +5,11 @@ mod input;
 mod output;
 mod turn;
 
-use console::memory::empty_bus;
-use console::memory::empty_storage;
-use console::prompt::is_colour;
 use console::session::Session;
 use image::layout::IMAGE_BYTES;
+use lines::memory::empty_bus;
+use lines::memory::empty_storage;
+use lines::prompt::is_colour;
 use output::say;
 use output::tell;
 use text::line::Line;

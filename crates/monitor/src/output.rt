@@ -1,11 +1,11 @@
 // Lines to standard output.
-use console::beside::BEFORE;
-use console::beside::EVERY;
-use console::beside::beside;
-use console::beside::mark;
-use console::memory::address_of;
-use console::memory::bytes_line;
-use console::memory::end_of;
+use lines::beside::BEFORE;
+use lines::beside::EVERY;
+use lines::beside::beside;
+use lines::beside::mark;
+use lines::memory::address_of;
+use lines::memory::bytes_line;
+use lines::memory::end_of;
 use pane::rows::ROWS;
 use pane::rows::row;
 use text::line::Line;

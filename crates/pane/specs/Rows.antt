@@ -9,12 +9,10 @@ use Rattle.transfer.specs.Constants.{status, command, c64Low, expLow, lengthLow
 use Rattle.image.specs.Layout.{imageSize, placeOf, shadowC64, shadowExp, shadowLength, flags, moreFlags, delay, transfer, kind, phase, transferC64, transferExp, remaining, latch, options}
 use Rattle.reu.specs.Exports.{reuDebugRegister, reuDmaActive, reuRead}
 use Rattle.pane.specs.Answers.{accepted, refusedBy}
+use Rattle.text.specs.Bytes.{byteAt}
 use Rattle.text.specs.Shown.{_⊕_, ascii, bitsOf, hexOf}
 
--- ---- the numbers of one, two and three bytes that stand at a place
-
-abbrev pub byteAt : List ℕ → ℕ → ℕ
-byteAt i p = getD i p 0
+-- ---- the numbers of two and three bytes that stand at a place
 
 abbrev pub wordAt : List ℕ → ℕ → ℕ
 wordAt i p = word (byteAt i p) (byteAt i (p + 1))

@@ -3,19 +3,18 @@
 use crate::answers::is_accepted;
 use crate::answers::refusal;
 use image::layout;
+use text::bytes::byte;
 use text::line::Line;
 ghost use mathlib.Core.Path.{_≡_};
 ghost use mathlib.Core.List.{[]};
 ghost use Prim.Native.Nat.{_%_, _<_, _≤_};
 ghost use lib.ListN.{length};
 ghost use Rattle.image.specs.Layout.{imageSize, placeOf, transferExp};
-ghost use Rattle.pane.specs.Rows.{byteAt, copyOf, flagsRow, heldRow, longAt, reads, refusedRow, registerName, registerRow, rowOf, runningRow, transferRow, typeName, wordAt};
+ghost use Rattle.pane.specs.Rows.{copyOf, flagsRow, heldRow, longAt, reads, refusedRow, registerName, registerRow, rowOf, runningRow, transferRow, typeName, wordAt};
 ghost use Rattle.pane.specs.Rows.{held as Rows·held, spelled as Rows·spelled};
 ghost use Rattle.text.specs.Shown.{_⊕_, ascii, bitsOf, hexOf, textOf};
 
 pub const ROWS: usize = 22;
-// Where a row's label ends: what follows differs from machine to machine.
-pub const LABEL: usize = 13;
 // The registers that a row spells out, the low byte of a pair.
 const STATUS: usize = layout::REGISTERS;
 
@@ -30,12 +29,6 @@ const LENGTH: usize = layout::REGISTERS + 7;
 const INTERRUPT_MASK: usize = layout::REGISTERS + 9;
 
 const ADDRESS_CONTROL: usize = layout::REGISTERS + 10;
-
-pub fn byte(s: &[u8], i: usize) -> u8
-    ensures { λ r. ⌜ r ≡ byteAt (now (s .entry)) i ⌝ }
-{
-    if i < s.len() { s[i] } else { 0 }
-}
 
 // Two bytes, low byte first.
 fn word(s: &[u8], i: usize) -> u32

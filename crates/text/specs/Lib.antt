@@ -1,3 +1,4 @@
+pub mod Bytes
 pub mod Shown
 pub mod Typed
 pub mod Faults

@@ -11,10 +11,10 @@ use Rattle.text.specs.Shown.{ascii}
 use Rattle.text.specs.Typed.{same, wordOf}
 use Rattle.console.specs.declared.session.Session.{Session}
 use Rattle.console.specs.Apply.{applyOf, controlOf, countOr, stepOutcome}
-use Rattle.console.specs.Clock.{timeOf}
-use Rattle.console.specs.Commands.{is, isComment, lineFault}
+use Rattle.lines.specs.Clock.{timeOf}
+use Rattle.lines.specs.Commands.{is, isComment, lineFault}
 use Rattle.console.specs.Session.{Held, Turn, endedAfter, heldOf, isDropped, machineOf, stepsOf, turnOf}
-use Rattle.console.proofs.Names.{same-true}
+use Rattle.lines.proofs.Names.{same-true}
 use Rattle.console.proofs.Turns.{forgets, obeys}
 use Rattle.turns.specs.Turns.{FaultsChangeNothing, StepsAreCycles, Turns, cycled, cycles}
 

@@ -7,11 +7,11 @@ use mathlib.Core.List.{List, []}
 use Rattle.text.specs.Typed.{wordOf}
 use Rattle.console.specs.declared.session.Session.{Session}
 use Rattle.console.specs.Apply.{countOr}
-use Rattle.console.specs.Commands.{is, lineFault}
+use Rattle.lines.specs.Commands.{is, lineFault}
 use Rattle.console.specs.declared.step.Cycle.{Cycle}
-use Rattle.console.specs.Clock.{inputsOf, letterAt, timeAfter}
+use Rattle.lines.specs.Clock.{inputsOf, letterAt}
 use Rattle.console.specs.Session.{Machine, heldOf, machineOf, turnOf}
-use Rattle.console.specs.Step.{cycleOf}
+use Rattle.console.specs.Step.{cycleOf, timeAfter}
 
 -- a line with a fault: what is held stays as it was, the fault is said, and no line is obeyed
 abbrev pub FaultsChangeNothing : Type 0

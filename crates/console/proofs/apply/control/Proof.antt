@@ -5,9 +5,9 @@ use native.Mathlib.Omega.{arith}
 use Rattle.text.specs.Shown.{ascii, textOf}
 use Rattle.text.specs.Typed.{same, wordOf}
 use Rattle.console.specs.Apply.{controlOf}
-use Rattle.console.specs.Clock.{Time}
-use Rattle.console.specs.Commands.{nameAt}
-use Rattle.console.proofs.Names.{named, other}
+use Rattle.lines.specs.Clock.{Time}
+use Rattle.lines.specs.Commands.{nameAt}
+use Rattle.lines.proofs.Names.{named, other}
 use Rattle.console.proofs.Outcomes.{image, timed}
 use borrow.Author.Needs.{needs}
 use Rattle.console.proofs.apply.control.Statement.{statement}

@@ -3,7 +3,7 @@ use mathlib.Core.List.{List}
 use Prim.Native.Nat.{ℕ, _-_, _%_}
 use Rattle.reu.specs.Exports.{reuWrite}
 use Rattle.text.specs.Shown.{textOf}
-use Rattle.console.proofs.Each.{Left, begun, onward, ended}
+use Rattle.lines.proofs.Each.{Left, begun, onward, ended}
 use borrow.Author.Needs.{needs}
 use Rattle.console.proofs.registers.write.Statement.{statement}
 use Rattle.console.proofs.registers.write.Tie as tie

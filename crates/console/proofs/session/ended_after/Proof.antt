@@ -3,9 +3,9 @@ use mathlib.Core.Path.{refl}
 use native.Mathlib.Omega.{arith}
 use Rattle.text.specs.Shown.{ascii}
 use Rattle.text.specs.Typed.{same}
-use Rattle.console.specs.Commands.{is}
+use Rattle.lines.specs.Commands.{is}
 use Rattle.console.specs.Session.{endedAfter}
-use Rattle.console.proofs.Names.{named, other}
+use Rattle.lines.proofs.Names.{named, other}
 use Rattle.console.proofs.session.ended_after.Statement.{statement}
 use Rattle.console.proofs.session.ended_after.Tie as tie
 
