@@ -1,8 +1,8 @@
 // The MOS 8726 expansion controller as a value. Each public call tests what it is handed, and answers a refusal, changing nothing, or does its work.
 //
-// registers and reu are the original's files; constants, dma, memory and timing are in the crate `transfer`, but for the constants that
-// only the controller uses. Four of reu.rs's functions have files of their own: start_dma, finish_dma, bus_action, tick_dma. cycle is
-// run_reu_cycle, from the original's src/memory/memory.rs, and the step over a lent controller.
+// registers and reu are the original's files; dma, memory and timing are in the crate `transfer`, and what needs no more than the eleven
+// registers is in `regs`; each has its part of the original's constants. Four of reu.rs's functions have files of their own: start_dma,
+// finish_dma, bus_action, tick_dma. cycle is run_reu_cycle, from the original's src/memory/memory.rs, and the step over a lent controller.
 mod bus_action;
 mod constants;
 mod cycle;
