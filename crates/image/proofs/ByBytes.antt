@@ -1,10 +1,10 @@
 -- What an image's numbers are, byte by byte: how the code reads them.
 use mathlib.Core.Path.{_≡_, refl, sym, ap, _∙_}
 use mathlib.Core.Bool.{Bool, true, false, cond, not, _&&_, _||_}
-use mathlib.Core.List.{List, _∷_, _++_}
-use Prim.Native.Nat.{ℕ, _<_}
+use mathlib.Core.List.{List, _++_}
+use Prim.Native.Nat.{ℕ, suc, _-_, _<_}
 use native.Mathlib.Omega.{arith}
-use lib.ListN.{length, getD, take, drop, set}
+use lib.ListN.{length, getD, take, drop}
 use lib.Seq.{sets}
 use borrow.Author.Tests.{eq-eqb, ne-eqb}
 use Rattle.transfer.specs.Constants.{registerCount}
@@ -17,7 +17,8 @@ use Rattle.image.specs.Layout.{fields, imageSize, at, shadowC64, shadowE
 use Rattle.image.specs.Inner.{transferPart}
 use Rattle.image.specs.Open.{allZero, bytesOk}
 use Rattle.image.proofs.Fields.{needed, needed-are, allTrue, lifted-below}
-use Rattle.image.proofs.Gets.{gets, gets-slice, gets-all}
+use Rattle.image.specs.Inner.{gets}
+use Rattle.image.proofs.Gets.{gets-slice, gets-all}
 
 module _ (s : List ℕ) (long : length s ≡ imageSize) where
   -- the same bytes, written out
@@ -63,15 +64,18 @@ module _ (s : List ℕ) (long : length s ≡ imageSize) where
 
 -- ---- packing: what the stores of the fields leave of a list of the image's length
 
+-- a number in the bytes of field k
+abbrev pub stored : ℕ → List ℕ → ℕ → List ℕ
+stored k l n = sets l (placeOf k) (parted (radices (placeOf (suc k) - placeOf k)) n)
+
 module _ (r : Reu) where
   abbrev laidOver : Dma → List ℕ → List ℕ → List ℕ
   laidOver m regs out =
-      let l1 : List ℕ = sets (take (length regs) regs ++ drop (length regs) out) (placeOf shadowC64) (parted (radices 2) (r .«shadow_c64_addr»)) in
-      let l2 : List ℕ = sets l1 (placeOf shadowExp) (parted (radices 3) (r .«shadow_reu_addr»)) in
-      let l3 : List ℕ = sets l2 (placeOf shadowLength) (parted (radices 2) (r .«shadow_len»)) in
-      let l4 : List ℕ = set (set l3 (placeOf flags) (flagsOf (flagBits r))) (placeOf moreFlags) (flagsOf (moreBits r)) in
-      let l5 : List ℕ = set (set l4 (placeOf delay) (r .«swap_read_delay»)) (placeOf transfer) (present m) in
-      sets l5 (placeOf kind) (laid transferPart (transferNumbers m))
+      let l1 : List ℕ = stored shadowC64 (take (length regs) regs ++ drop (length regs) out) (r .«shadow_c64_addr») in
+      let l2 : List ℕ = stored shadowLength (stored shadowExp l1 (r .«shadow_reu_addr»)) (r .«shadow_len») in
+      let l3 : List ℕ = stored moreFlags (stored flags l2 (flagsOf (flagBits r))) (flagsOf (moreBits r)) in
+      let l4 : List ℕ = stored transfer (stored delay l3 (r .«swap_read_delay»)) (present m) in
+      sets l4 (placeOf kind) (laid transferPart (transferNumbers m))
 
   abbrev laidDown : Dma → List ℕ → List ℕ
   laidDown m regs = laid fields (regs ++ otherWith r m)

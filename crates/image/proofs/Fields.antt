@@ -8,9 +8,9 @@ use lib.Dec.{ltb, leb}
 use lib.ListN.{length, getD, take, drop, length-append, length-drop, length-replicate, take-append-drop}
 use lib.Seq.{take-all, take-at, drop-at, getD-drop}
 use borrow.Author.Tests.{lt-ltb, ltb-true, leb-true}
-use Rattle.image.specs.Radix.{joined, parted, below}
+use Rattle.image.specs.Radix.{joined, parted, below, product}
 use Rattle.image.specs.Fields.{radices, size, values, laid, lifted}
-use Rattle.image.proofs.Radix.{product, Below, joined-parted, parted-joined, joined-below, parted-below, length-parted}
+use Rattle.image.proofs.Radix.{Below, joined-parted, parted-joined, joined-below, parted-below, length-parted}
 
 pub and-left : (a b : Bool) → a && b ≡ true → a ≡ true
 and-left true b h = refl

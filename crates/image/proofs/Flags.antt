@@ -11,7 +11,8 @@ use borrow.Author.Tests.{eq-eqb, ne-eqb}
 use Rattle.transfer.specs.Bytes.{bit, bitOf}
 use Rattle.transfer.proofs.Bits.{bit-div, bit-digit}
 use Rattle.image.specs.Layout.{flagsOf}
-use Rattle.image.proofs.Radix.{product, Below, joined-below}
+use Rattle.image.specs.Radix.{product}
+use Rattle.image.proofs.Radix.{Below, joined-below}
 
 bit-le : (b : Bool) → bitOf b ≤ 1
 bit-le true = omega arith

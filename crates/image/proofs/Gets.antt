@@ -1,15 +1,11 @@
 -- A list that is long enough, element by element: what the code reads, and what the definitions then compute on.
 use mathlib.Core.Path.{_≡_, refl, sym, ap, _∙_}
-use mathlib.Core.List.{List, [], _∷_}
+use mathlib.Core.List.{List, _∷_}
 use Prim.Native.Nat.{ℕ, zero, suc, _+_, _≤_}
 use native.Mathlib.Omega.{arith}
 use lib.ListN.{length, getD, take, drop, length-drop}
 use lib.Seq.{drop-cons, take-length, take-all}
-
--- n elements of s, from i on
-abbrev pub gets : ℕ → ℕ → List ℕ → List ℕ
-gets i zero s = []
-gets i (suc n) s = getD s i 0 ∷ gets (suc i) n s
+use Rattle.image.specs.Inner.{gets}
 
 pub gets-slice : (s : List ℕ) (i n : ℕ) → i + n ≤ length s → gets i n s ≡ take n (drop i s)
 gets-slice s i zero h = refl

@@ -4,6 +4,7 @@ pub mod Gets
 pub mod Flags
 pub mod Opening
 pub mod ByBytes
+pub mod Bytes
 pub mod Packed
 pub mod Unpacked
 pub mod Sound

@@ -28,7 +28,8 @@ use Rattle.image.specs.Valid.{Typed, DmaTyped, Bytes}
 use Rattle.image.proofs.Radix.{Below}
 use Rattle.image.proofs.Fields.{Roomy, roomy-test, bytes-below, below-append, test-below, lifted-laid, laid-long, laid-bytes}
 use Rattle.image.proofs.Flags.{flag-back, flags-below}
-use Rattle.image.proofs.Gets.{gets, gets-all}
+use Rattle.image.specs.Inner.{gets}
+use Rattle.image.proofs.Gets.{gets-all}
 use Rattle.image.proofs.Opening.{open-good}
 
 type-back : (t : TransferType) → typeOf (typeNumber t) ≡ t

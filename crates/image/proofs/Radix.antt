@@ -5,12 +5,7 @@ use Prim.Native.Nat.{ℕ, zero, suc, _+_, _*_, _/_, _%_, _<_}
 use native.Mathlib.Omega.{arith}
 use native.Mathlib.Nat.{div-add-mod, mod-lt, mod-eq-of-lt, add-mul-mod-self-left, add-mul-div-left, mul-le-mul-left, div-lt-iff-lt-mul, mul-comm, mul-one, div-eq-of-lt, mul-suc}
 use lib.ListN.{length}
-use Rattle.image.specs.Radix.{joined, parted}
-
--- how many numbers these radices can say
-abbrev pub product : List ℕ → ℕ
-product [] = 1
-product (r ∷ rs) = r * product rs
+use Rattle.image.specs.Radix.{joined, parted, product}
 
 -- as many digits as radices, each below its own
 abbrev pub Below : List ℕ → List ℕ → Type 0

@@ -22,7 +22,8 @@ use Rattle.image.specs.Valid.{Bytes, Typed, DmaTyped}
 use Rattle.image.proofs.Radix.{Below}
 use Rattle.image.proofs.Fields.{and-left, and-right, below-test, below-at, below-front, byte-of, lifted-long, laid-lifted}
 use Rattle.image.proofs.Flags.{flags-back}
-use Rattle.image.proofs.Gets.{gets, gets-slice, gets-rest}
+use Rattle.image.specs.Inner.{gets}
+use Rattle.image.proofs.Gets.{gets-slice, gets-rest}
 use Rattle.image.proofs.Opening.{opened-is, opened-long, opened-ok}
 
 type-number-back : (n : ℕ) → n < 4 → typeNumber (typeOf n) ≡ n

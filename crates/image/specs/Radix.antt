@@ -22,3 +22,8 @@ abbrev pub below : List ℕ → List ℕ → Bool
 below [] ds = true
 below (r ∷ rs) [] = false
 below (r ∷ rs) (d ∷ ds) = ltb d r && below rs ds
+
+-- how many numbers these radices can say
+abbrev pub product : List ℕ → ℕ
+product [] = 1
+product (r ∷ rs) = r * product rs

@@ -1,5 +1,19 @@
 // A controller laid down in an image, field by field.
-use crate::layout;
+use crate::layout::DELAY;
+use crate::layout::FLAGS;
+use crate::layout::IMAGE_BYTES;
+use crate::layout::LATCH;
+use crate::layout::MORE_FLAGS;
+use crate::layout::OPTIONS;
+use crate::layout::PHASE;
+use crate::layout::REMAINING;
+use crate::layout::SHADOW_C64;
+use crate::layout::SHADOW_EXPANSION;
+use crate::layout::SHADOW_LENGTH;
+use crate::layout::TRANSFER;
+use crate::layout::TRANSFER_C64;
+use crate::layout::TRANSFER_EXPANSION;
+use crate::layout::TYPE;
 use controller::Reu;
 use transfer::C64Address;
 use transfer::Dma;
@@ -9,19 +23,18 @@ use transfer::SwapPhase;
 use transfer::TransferType;
 ghost use mathlib.Core.Bool.{true};
 ghost use mathlib.Core.Path.{_≡_};
-ghost use Prim.Native.Nat.{_<_, _≤_};
+ghost use Prim.Native.Nat.{_-_, _<_, _≤_};
 ghost use lib.ListN.{length, set};
 ghost use lib.Seq.{sets};
 ghost use Rattle.transfer.specs.Bytes.{bitOf};
-ghost use Rattle.transfer.specs.Constants.{expansionLimit};
 ghost use Rattle.controller.specs.Refusals.{wellFormed};
-ghost use Rattle.image.specs.Radix.{parted};
+ghost use Rattle.image.specs.Radix.{parted, product};
 ghost use Rattle.controller.specs.Inner.{InRangeDma};
 ghost use Rattle.image.specs.Fields.{laid, radices};
 ghost use Rattle.image.specs.Layout.{flagBits, flagsOf, imageSize, kind, moreBits, optionBits, packImage, phaseNumber, placeOf, present, transferNumbers};
 ghost use Rattle.image.specs.Inner.{Room, transferPart};
 
-// ---- a number in one, two and three bytes at a place
+// ---- a number in the bytes from a place to before an end, the low byte first
 fn put1(out: &mut [u8], place: usize, v: u8)
     ensures { λ _. ⌜ now (out .exit) ≡ set (now (out .entry)) place v ⌝ }
 {
@@ -30,22 +43,17 @@ fn put1(out: &mut [u8], place: usize, v: u8)
     }
 }
 
-fn put2(out: &mut [u8], place: usize, v: u16)
-    requires { ⌜ place < imageSize ⌝ }
-    ensures { λ _. ⌜ now (out .exit) ≡ sets (now (out .entry)) place (parted (radices 2) v) ⌝ }
+fn put(out: &mut [u8], place: usize, end: usize, v: u32)
+    requires { ⌜ v < product (radices (end - place)) ⌝ }
+    ensures { λ _. ⌜ now (out .exit) ≡ sets (now (out .entry)) place (parted (radices (end - place)) v) ⌝ }
 {
-    put1(out, place, (v % 256) as u8);
-    put1(out, place + 1, (v / 256) as u8);
-}
-
-fn put3(out: &mut [u8], place: usize, v: u32)
-    requires { ⌜ place < imageSize ⌝ }
-    requires { ⌜ v < expansionLimit ⌝ }
-    ensures { λ _. ⌜ now (out .exit) ≡ sets (now (out .entry)) place (parted (radices 3) v) ⌝ }
-{
-    put1(out, place, (v % 256) as u8);
-    put1(out, place + 1, (v / 256 % 256) as u8);
-    put1(out, place + 2, (v / 256 / 256) as u8);
+    let mut left = v;
+    let mut at = place;
+    while at < end {
+        put1(out, at, (left % 256) as u8);
+        left = left / 256;
+        at += 1;
+    }
 }
 
 // ---- numbers of what is no number
@@ -145,13 +153,13 @@ fn put_transfer(out: &mut [u8], d: DmaState)
 {
     let kind = d.transfer_type;
     let phase = d.swap_phase;
-    put1(out, layout::TYPE, kind.number());
-    put1(out, layout::PHASE, phase_number(phase));
-    put2(out, layout::TRANSFER_C64, d.c64_addr.0);
-    put3(out, layout::TRANSFER_EXPANSION, d.reu_addr.0);
-    put3(out, layout::REMAINING, d.remaining);
-    put1(out, layout::LATCH, d.latch);
-    put1(out, layout::OPTIONS, options(d));
+    put(out, TYPE, PHASE, kind.number() as u32);
+    put(out, PHASE, TRANSFER_C64, phase_number(phase) as u32);
+    put(out, TRANSFER_C64, TRANSFER_EXPANSION, d.c64_addr.0 as u32);
+    put(out, TRANSFER_EXPANSION, REMAINING, d.reu_addr.0);
+    put(out, REMAINING, LATCH, d.remaining);
+    put(out, LATCH, OPTIONS, d.latch as u32);
+    put(out, OPTIONS, IMAGE_BYTES, options(d) as u32);
 }
 
 // The image of a controller that opening would accept: a number that is too large would not fit its bytes.
@@ -163,12 +171,17 @@ pub(crate) fn pack(out: &mut [u8], reu: Reu)
     let regs = reu.regs;
     let dma = reu.dma;
     bytes::copy(&regs, out);
-    put2(out, layout::SHADOW_C64, reu.shadow_c64_addr);
-    put3(out, layout::SHADOW_EXPANSION, reu.shadow_reu_addr);
-    put2(out, layout::SHADOW_LENGTH, reu.shadow_len);
-    put1(out, layout::FLAGS, flags(reu));
-    put1(out, layout::MORE_FLAGS, more_flags(reu));
-    put1(out, layout::DELAY, reu.swap_read_delay);
-    put1(out, layout::TRANSFER, present_number(dma));
+    put(
+        out,
+        SHADOW_C64,
+        SHADOW_EXPANSION,
+        reu.shadow_c64_addr as u32,
+    );
+    put(out, SHADOW_EXPANSION, SHADOW_LENGTH, reu.shadow_reu_addr);
+    put(out, SHADOW_LENGTH, FLAGS, reu.shadow_len as u32);
+    put(out, FLAGS, MORE_FLAGS, flags(reu) as u32);
+    put(out, MORE_FLAGS, DELAY, more_flags(reu) as u32);
+    put(out, DELAY, TRANSFER, reu.swap_read_delay as u32);
+    put(out, TRANSFER, TYPE, present_number(dma) as u32);
     put_transfer(out, transfer_of(dma));
 }

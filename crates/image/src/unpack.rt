@@ -8,38 +8,33 @@ use transfer::ExpansionAddress;
 use transfer::SwapPhase;
 use transfer::TransferType;
 ghost use mathlib.Core.Path.{_≡_};
-ghost use mathlib.Core.List.{[], _∷_};
-ghost use Prim.Native.Nat.{_+_, _≤_, _<_};
+ghost use Prim.Native.Nat.{_+_, _-_, _≤_, _<_};
 ghost use lib.ListN.{drop, length, take};
 ghost use Rattle.transfer.specs.Constants.{registerCount};
-ghost use Rattle.image.specs.Radix.{below, joined};
+ghost use Rattle.image.specs.Radix.{below, joined, product};
 ghost use Rattle.image.specs.Fields.{lifted, radices, values};
 ghost use Rattle.image.specs.Layout.{at, dmaIn, fields, imageSize, kind, phaseOf, reuAt, transferFields, transferOf};
+ghost use Rattle.image.specs.Inner.{gets};
 ghost use Rattle.image.specs.Open.{allZero, bytesOk};
 
-// ---- the number of two and of three bytes at a place
-fn get2(image: &[u8], place: usize) -> u16
-    requires { ⌜ place + 2 ≤ length (now image) ⌝ }
-    ensures { λ r. ⌜ r ≡ joined (radices 2) (at (now (image .entry)) place ∷ at (now (image .entry)) (place + 1) ∷ []) ⌝ }
+// ---- the number in the bytes from a place to before an end, the low byte first
+fn get(image: &[u8], place: usize, end: usize) -> u32
+    requires { ⌜ place ≤ end ⌝ }
+    requires { ⌜ end ≤ place + 4 ⌝ }
+    requires { ⌜ end ≤ length (now image) ⌝ }
+    ensures { λ r. ⌜ r ≡ joined (radices (end - place)) (gets place (end - place) (now (image .entry))) ⌝ }
+    ensures { λ r. ⌜ r < product (radices (end - place)) ⌝ }
 {
-    wide16(image[place]) + 256 * wide16(image[place + 1])
+    let mut v = 0;
+    let mut at = end;
+    while place < at {
+        at -= 1;
+        v = 256 * v + wide(image[at]);
+    }
+    v
 }
 
-fn get3(image: &[u8], place: usize) -> u32
-    requires { ⌜ place + 3 ≤ length (now image) ⌝ }
-    ensures { λ r. ⌜ r ≡ joined (radices 3) (at (now (image .entry)) place ∷ at (now (image .entry)) (place + 1) ∷ at (now (image .entry)) (place + 2) ∷ []) ⌝ }
-{
-    wide32(image[place]) + 256 * (wide32(image[place + 1]) + 256 * wide32(image[place + 2]))
-}
-
-fn wide16(x: u8) -> u16
-    ensures { λ r. ⌜ r ≡ x ⌝ }
-    ensures { λ r. ⌜ r < 256 ⌝ }
-{
-    x as u16
-}
-
-fn wide32(x: u8) -> u32
+fn wide(x: u8) -> u32
     ensures { λ r. ⌜ r ≡ x ⌝ }
     ensures { λ r. ⌜ r < 256 ⌝ }
 {
@@ -64,14 +59,14 @@ fn transfer_at(image: &[u8]) -> DmaState
     let options = image[layout::OPTIONS];
     let kind = TransferType::from_command(image[layout::TYPE]);
     let phase = phase_of(image[layout::PHASE]);
-    let c64 = C64Address(get2(image, layout::TRANSFER_C64));
-    let exp = ExpansionAddress(get3(image, layout::TRANSFER_EXPANSION));
+    let c64 = C64Address(get(image, layout::TRANSFER_C64, layout::TRANSFER_EXPANSION) as u16);
+    let exp = ExpansionAddress(get(image, layout::TRANSFER_EXPANSION, layout::REMAINING));
     DmaState {
         transfer_type: kind,
         swap_phase: phase,
         c64_addr: c64,
         reu_addr: exp,
-        remaining: get3(image, layout::REMAINING),
+        remaining: get(image, layout::REMAINING, layout::LATCH),
         fix_c64: options & 0x01 != 0,
         fix_reu: options & 0x02 != 0,
         autoload: options & 0x04 != 0,
@@ -123,9 +118,9 @@ pub(crate) fn controller_at(image: &[u8]) -> Reu
     let dma = dma_at(image);
     Reu {
         regs: regs,
-        shadow_c64_addr: get2(image, layout::SHADOW_C64),
-        shadow_reu_addr: get3(image, layout::SHADOW_EXPANSION),
-        shadow_len: get2(image, layout::SHADOW_LENGTH),
+        shadow_c64_addr: get(image, layout::SHADOW_C64, layout::SHADOW_EXPANSION) as u16,
+        shadow_reu_addr: get(image, layout::SHADOW_EXPANSION, layout::SHADOW_LENGTH),
+        shadow_len: get(image, layout::SHADOW_LENGTH, layout::FLAGS) as u16,
         enabled: flags & 0x01 != 0,
         irq_pending: flags & 0x02 != 0,
         attached: flags & 0x04 != 0,
@@ -148,7 +143,7 @@ fn ranges_ok(image: &[u8]) -> bool
     requires { ⌜ length (now image) ≡ imageSize ⌝ }
     ensures { λ r. ⌜ r ≡ below (values fields) (lifted fields (now (image .entry))) ⌝ }
 {
-    let left = get3(image, layout::REMAINING);
+    let left = get(image, layout::REMAINING, layout::LATCH);
     (image[layout::MORE_FLAGS] < 4)
         & (image[layout::DELAY] < 3)
         & (image[layout::TRANSFER] < 2)
@@ -163,9 +158,9 @@ fn idle_ok(image: &[u8]) -> bool
     requires { ⌜ length (now image) ≡ imageSize ⌝ }
     ensures { λ r. ⌜ r ≡ allZero (take transferFields (drop kind (lifted fields (now (image .entry))))) ⌝ }
 {
-    let c64 = get2(image, layout::TRANSFER_C64);
-    let exp = get3(image, layout::TRANSFER_EXPANSION);
-    let left = get3(image, layout::REMAINING);
+    let c64 = get(image, layout::TRANSFER_C64, layout::TRANSFER_EXPANSION);
+    let exp = get(image, layout::TRANSFER_EXPANSION, layout::REMAINING);
+    let left = get(image, layout::REMAINING, layout::LATCH);
     (image[layout::TYPE] == 0)
         & (image[layout::PHASE] == 0)
         & (c64 == 0)
