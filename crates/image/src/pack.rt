@@ -35,6 +35,8 @@ ghost use Rattle.image.specs.Layout.{flagBits, flagsOf, imageSize, kind,
 ghost use Rattle.image.specs.Inner.{Room, transferPart};
 
 // ---- a number in the bytes from a place to before an end, the low byte first
+
+// A byte; past the slice's end nothing is written.
 fn put1(out: &mut [u8], place: usize, v: u8)
     ensures { λ _. ⌜ now (out .exit) ≡ set (now (out .entry)) place v ⌝ }
 {

@@ -21,7 +21,7 @@ counters l c e n =
     set (set (set (set (set (set (set l c64Low (lowByte c)) c64High (highByte c)) expLow (lowByte e)) expHigh (highByte e))
     expBank (bankByte e)) lengthLow (lowByte n)) lengthHigh (highByte n)
 
--- "Finish: bit 6 if the block ended; COMMAND AND $7F OR $10;
+-- "Finish: bit 6 if the block ended; COMMAND AND $7F OR $10"
 abbrev pub finishedStatus : List ℕ → Bool → List ℕ
 finishedStatus l ended = marked l (ones (endOfBlock ∷ [])) ended
 
@@ -31,6 +31,6 @@ finishedCommand l = set l command (setBits (withoutFf00 ∷ []) (clearBits (exec
 abbrev pub finished : List ℕ → Bool → List ℕ
 finished l ended = finishedCommand (finishedStatus l ended)
 
--- with Autoload the seven .. registers come from the shadows": here c, e and n
+-- "with Autoload the seven .. registers come from the shadows": here c, e and n
 abbrev pub autoloaded : List ℕ → Bool → ℕ → ℕ → ℕ → List ℕ
 autoloaded l autoload c e n = cond autoload (counters l c e n) l
