@@ -5,7 +5,8 @@ use Rattle.transfer.specs.Bytes.{ones}
 use Rattle.controller.specs.Reu.{withPower, withDma, cleared}
 use Rattle.transfer.specs.Memory.{zeros}
 
--- R1: STATUS $10, COMMAND $10, addresses 0, bank $F8 over a shadow of 0, length $FFFF, mask $1F, control $3F; "BA was high is true"
+-- R1: STATUS $10, COMMAND $10, addresses 0, bank $F8 over a shadow of 0, length $FFFF, mask $1F, control $3F; "BA was high is true";
+-- L1: the count of granted cycles is "zero at new, reset"
 abbrev pub fresh : Bool → Bool → Reu
 fresh enabled attached =
     record {
@@ -26,6 +27,7 @@ fresh enabled attached =
       «swap_release_pending» = false;
       «swap_read_delay» = 0;
       dma = Idle;
+      «granted_cycles» = 0;
     }
 
 abbrev pub newReu : Reu

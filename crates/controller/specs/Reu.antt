@@ -8,8 +8,8 @@ abbrev pub reg : Reu → ℕ → ℕ
 reg u i = held (u .regs) i
 
 abbrev pub reuOf :
-    List ℕ → ℕ → ℕ → ℕ → Bool → Bool → Bool → Bool → Bool → Bool → Bool → Bool → Bool → Bool → ℕ → Dma → Reu
-reuOf r c e n enabled irq attached armed high repeat terminal late refresh release delay dma =
+    List ℕ → ℕ → ℕ → ℕ → Bool → Bool → Bool → Bool → Bool → Bool → Bool → Bool → Bool → Bool → ℕ → Dma → ℕ → Reu
+reuOf r c e n enabled irq attached armed high repeat terminal late refresh release delay dma granted =
     record {
       regs = r;
       «shadow_c64_addr» = c;
@@ -27,6 +27,7 @@ reuOf r c e n enabled irq attached armed high repeat terminal late refresh relea
       «swap_release_pending» = release;
       «swap_read_delay» = delay;
       dma = dma;
+      «granted_cycles» = granted;
     }
 
 -- ---- the registers, the shadows (C64 address, expansion address, length)
@@ -35,7 +36,7 @@ abbrev pub withRegs : Reu → List ℕ → Reu
 withRegs u r =
     reuOf r (u .«shadow_c64_addr») (u .«shadow_reu_addr») (u .«shadow_len») (u .enabled) (u .«irq_pending»)
     (u .attached) (u .«waiting_ff00») (u .«ba_was_high») (u .«recall_repeat») (u .«terminal_swap_write»)
-    (u .«late_ba_fall») (u .«swap_refresh») (u .«swap_release_pending») (u .«swap_read_delay») (u .dma)
+    (u .«late_ba_fall») (u .«swap_refresh») (u .«swap_release_pending») (u .«swap_read_delay») (u .dma) (u .«granted_cycles»)
 
 abbrev pub setReg : Reu → ℕ → ℕ → Reu
 setReg u i v = withRegs u (set (u .regs) i v)
@@ -44,7 +45,7 @@ abbrev pub withShadows : Reu → ℕ → ℕ → ℕ → Reu
 withShadows u c e n =
     reuOf (u .regs) c e n (u .enabled) (u .«irq_pending») (u .attached) (u .«waiting_ff00») (u .«ba_was_high»)
     (u .«recall_repeat») (u .«terminal_swap_write») (u .«late_ba_fall») (u .«swap_refresh»)
-    (u .«swap_release_pending») (u .«swap_read_delay») (u .dma)
+    (u .«swap_release_pending») (u .«swap_read_delay») (u .dma) (u .«granted_cycles»)
 
 -- ---- enabled, the interrupt level, attached, armed; the two flags of BA's history; the running command
 
@@ -52,7 +53,7 @@ abbrev pub withPower : Reu → Bool → Bool → Bool → Bool → Reu
 withPower u enabled irq attached armed =
     reuOf (u .regs) (u .«shadow_c64_addr») (u .«shadow_reu_addr») (u .«shadow_len») enabled irq attached armed
     (u .«ba_was_high») (u .«recall_repeat») (u .«terminal_swap_write») (u .«late_ba_fall») (u .«swap_refresh»)
-    (u .«swap_release_pending») (u .«swap_read_delay») (u .dma)
+    (u .«swap_release_pending») (u .«swap_read_delay») (u .dma) (u .«granted_cycles»)
 
 abbrev pub withIrq : Reu → Bool → Reu
 withIrq u irq = withPower u (u .enabled) irq (u .attached) (u .«waiting_ff00»)
@@ -64,14 +65,23 @@ abbrev pub withHistory : Reu → Bool → Bool → Reu
 withHistory u high late =
     reuOf (u .regs) (u .«shadow_c64_addr») (u .«shadow_reu_addr») (u .«shadow_len») (u .enabled)
     (u .«irq_pending») (u .attached) (u .«waiting_ff00») high (u .«recall_repeat») (u .«terminal_swap_write») late
-    (u .«swap_refresh») (u .«swap_release_pending») (u .«swap_read_delay») (u .dma)
+    (u .«swap_refresh») (u .«swap_release_pending») (u .«swap_read_delay») (u .dma) (u .«granted_cycles»)
 
 abbrev pub withDma : Reu → Dma → Reu
 withDma u dma =
     reuOf (u .regs) (u .«shadow_c64_addr») (u .«shadow_reu_addr») (u .«shadow_len») (u .enabled)
     (u .«irq_pending») (u .attached) (u .«waiting_ff00») (u .«ba_was_high») (u .«recall_repeat»)
     (u .«terminal_swap_write») (u .«late_ba_fall») (u .«swap_refresh») (u .«swap_release_pending»)
-    (u .«swap_read_delay») dma
+    (u .«swap_read_delay») dma (u .«granted_cycles»)
+
+-- ---- L1's number: how many cycles were granted
+
+abbrev pub withGranted : Reu → ℕ → Reu
+withGranted u n =
+    reuOf (u .regs) (u .«shadow_c64_addr») (u .«shadow_reu_addr») (u .«shadow_len») (u .enabled)
+    (u .«irq_pending») (u .attached) (u .«waiting_ff00») (u .«ba_was_high») (u .«recall_repeat»)
+    (u .«terminal_swap_write») (u .«late_ba_fall») (u .«swap_refresh») (u .«swap_release_pending»)
+    (u .«swap_read_delay») (u .dma) n
 
 -- ---- recall repeat, terminal write, refresh, release, delay
 
@@ -79,7 +89,7 @@ abbrev pub withPending : Reu → Bool → Bool → Bool → Bool → ℕ → Reu
 withPending u repeat terminal refresh release delay =
     reuOf (u .regs) (u .«shadow_c64_addr») (u .«shadow_reu_addr») (u .«shadow_len») (u .enabled)
     (u .«irq_pending») (u .attached) (u .«waiting_ff00») (u .«ba_was_high») repeat terminal (u .«late_ba_fall»)
-    refresh release delay (u .dma)
+    refresh release delay (u .dma) (u .«granted_cycles»)
 
 abbrev pub withRepeat : Reu → Bool → Reu
 withRepeat u v = withPending u v (u .«terminal_swap_write») (u .«swap_refresh») (u .«swap_release_pending») (u .«swap_read_delay»)

@@ -3,13 +3,16 @@ use Rattle.controller.specs.Prelude.{false, cond, _&&_, [], _∷_, Runni
 use Rattle.transfer.specs.Constants.{status, command, version, execute}
 use Rattle.transfer.specs.Bytes.{bit, clearBits, keepBits}
 use Rattle.regs.specs.StartDma.{requested}
-use Rattle.controller.specs.Reu.{reg, setReg, withIrq, withDma, cleared}
+use Rattle.controller.specs.Reu.{reg, setReg, withIrq, withDma, withGranted, cleared}
 
--- "Without storage it then clears only bit 7 of COMMAND; .. With storage, STATUS is ANDed with $10 and the interrupt level falls"
+-- "Without storage it then clears only bit 7 of COMMAND; .. With storage, STATUS is ANDed with $10 and the interrupt level falls".
+-- L1: the count of granted cycles is "zero at .. every start that has storage"
 unfoldable pub startDma : Reu → Reu
 startDma u =
     cond (u .attached)
+    (withGranted
     (withDma (withIrq (setReg (cleared u) status (keepBits (version ∷ []) (reg u status))) false) (Running (requested (u .regs))))
+    0)
     (setReg (cleared u) command (clearBits (execute ∷ []) (reg u command)))
 
 -- "the trigger also needs bit 7"

@@ -1,7 +1,10 @@
-// The numbers of a lent bus, a lent storage and a refusal.
+// The numbers of a wait, of the count, of a lent bus, a lent storage and a refusal.
 
 // The longest wait of a swap's read.
 pub(crate) const LONGEST_READ_DELAY: u8 = 2;
+
+// The count of granted cycles is held here.
+pub(crate) const MOST_GRANTED: u32 = 4_294_967_295;
 
 // The lengths of a lent bus and a lent storage.
 pub(crate) const BUS_BYTES: usize = 65_536;

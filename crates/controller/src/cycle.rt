@@ -1,13 +1,27 @@
 // The machine's cycle over the controller: run_reu_cycle of the original's src/memory/memory.rs, and the step over a lent controller.
 ghost use mathlib.Core.Path.{_≡_};
 ghost use Rattle.controller.specs.Calls.{stepCall};
-ghost use Rattle.controller.specs.Cycle.{cycleBy, runReuCycle};
+ghost use Rattle.controller.specs.Cycle.{counted, cycleBy, runReuCycle};
+use crate::constants::MOST_GRANTED;
 use crate::reu::FlagAnswer;
 use crate::reu::Reu;
 use crate::reu::Stepped;
 use transfer::ReuBusAction;
 
 impl Reu {
+    // One more granted cycle.
+    fn counted(mut self) -> Reu
+        ensures { λ r. ⌜ r ≡ counted self ⌝ }
+    {
+        let before = self.granted_cycles;
+        self.granted_cycles = if before < MOST_GRANTED {
+            before + 1
+        } else {
+            MOST_GRANTED
+        };
+        self
+    }
+
     fn cycle_by(
         self,
         action: ReuBusAction,
@@ -30,12 +44,15 @@ impl Reu {
             ReuBusAction::Transfer => {
                 let ticked = self.tick(bus, storage, cycle, ba_low);
                 let reu = ticked.reu;
-                FlagAnswer { flag: true, reu }
+                FlagAnswer {
+                    flag: true,
+                    reu: reu.counted(),
+                }
             }
         }
     }
 
-    // One cycle: the grant, and on Transfer a tick. Answers false for Cpu.
+    // One cycle: the grant, and on Transfer a tick, which is counted. Answers false for Cpu.
     pub(crate) fn cycle(
         self,
         bus: &mut [u8],

@@ -35,6 +35,8 @@ pub struct Reu {
     pub swap_release_pending: bool,
     pub swap_read_delay: u8,
     pub dma: Dma,
+    // How many cycles were granted since new, reset or the last start that had storage.
+    pub granted_cycles: u32,
 }
 
 // What `read` answers: the byte, and the controller after it.
@@ -111,6 +113,7 @@ fn fresh(enabled: bool, attached: bool) -> Reu
         swap_release_pending: false,
         swap_read_delay: 0,
         dma,
+        granted_cycles: 0,
     }
 }
 

@@ -25,7 +25,7 @@ impl Reu {
         self
     }
 
-    // Without storage only bit 7 of COMMAND falls.
+    // With storage the count of granted cycles begins anew. Without it only bit 7 of COMMAND falls.
     pub(crate) fn start_dma(self) -> Reu
         ensures { λ r. ⌜ r ≡ startDma self ⌝ }
     {
@@ -37,6 +37,7 @@ impl Reu {
             let status = reu.regs[STATUS];
             reu.regs[STATUS] = status & STATUS_VERSION;
             reu.irq_pending = false;
+            reu.granted_cycles = 0;
             reu.running(asked)
         } else {
             let command = reu.regs[COMMAND];
@@ -67,6 +68,7 @@ impl Reu {
             swap_release_pending: self.swap_release_pending,
             swap_read_delay: self.swap_read_delay,
             dma,
+            granted_cycles: self.granted_cycles,
         }
     }
 

@@ -22,7 +22,7 @@ use Rattle.controller.proofs.WellFormed.{well-range, well-shadow, well-delay}
 use Rattle.image.specs.Radix.{below}
 use Rattle.transfer.specs.Constants.{registerCount}
 use Rattle.image.specs.Fields.{radices, values, laid, lifted}
-use Rattle.image.specs.Layout.{fields, imageSize, kind, phaseNumber, phaseOf, present, flagBits, moreBits, optionBits, transferFields, transferNumbers, otherWith, otherNumbers, numbersOf, packImage, transferOf, controllerOf, reuAt}
+use Rattle.image.specs.Layout.{fields, imageSize, at, kind, grantedCycles, phaseNumber, phaseOf, present, flagBits, moreBits, optionBits, transferFields, transferNumbers, otherWith, otherNumbers, numbersOf, packImage, transferOf, controllerOf, reuAt}
 use Rattle.image.specs.Open.{allZero, idleOk, bytesOk, imageOk, openImage}
 use Rattle.image.specs.Valid.{Typed, DmaTyped, Bytes}
 use Rattle.image.proofs.Radix.{Below}
@@ -61,9 +61,9 @@ phase-below WriteC64 = omega arith
 module _ (r : Reu) (typed : Typed r) (ok : wellFormed r ≡ true) where
   below-with : (m : Dma) → DmaTyped m → InRangeDma m → Below (drop registerCount (values fields)) (otherWith r m)
   below-with Idle h s =
-      omega (arith, typed .c64-fits, well-shadow r ok, typed .len-fits, flags-below (flagBits r), flags-below (moreBits r), well-delay r ok)
+      omega (arith, typed .c64-fits, well-shadow r ok, typed .len-fits, flags-below (flagBits r), flags-below (moreBits r), well-delay r ok, typed .granted-fits)
   below-with (Running d) h s =
-      omega (arith, typed .c64-fits, well-shadow r ok, typed .len-fits, flags-below (flagBits r), flags-below (moreBits r), well-delay r ok, type-below (d .«transfer_type»), phase-below (d .«swap_phase»), h .0, h .1, s .addr, s .high, flags-below (optionBits d))
+      omega (arith, typed .c64-fits, well-shadow r ok, typed .len-fits, flags-below (flagBits r), flags-below (moreBits r), well-delay r ok, type-below (d .«transfer_type»), phase-below (d .«swap_phase»), h .0, h .1, s .addr, s .high, flags-below (optionBits d), typed .granted-fits)
 
   numbers-below : Below (values fields) (numbersOf r)
   numbers-below =
@@ -98,9 +98,9 @@ all-below (x ∷ l) h (suc j) = all-below l (h .1) j
 
 -- ---- the controller of its numbers is the controller
 
--- the transfer of its numbers, behind the other fields
-transfer-back : (d : DmaState) → transferOf (replicate kind 0 ++ transferNumbers (Running d)) ≡ d
-transfer-back d = λ i. record {
+-- the transfer of its numbers, behind the other fields and before the count
+transfer-back : (d : DmaState) (g : ℕ) → transferOf (replicate kind 0 ++ (transferNumbers (Running d) ++ (g ∷ []))) ≡ d
+transfer-back d g = λ i. record {
   «transfer_type» = type-back (d .«transfer_type») i;
   «swap_phase» = phase-back (d .«swap_phase») i;
   «c64_addr» = d .«c64_addr»;
@@ -115,13 +115,17 @@ transfer-back d = λ i. record {
   «verify_tail» = flag-back (optionBits d) 5 (omega arith) i;
 }
 
-dma-back : (m : Dma) → cond (eqb (present m) 0) Idle (Running (transferOf (replicate kind 0 ++ transferNumbers m))) ≡ m
-dma-back Idle = refl
-dma-back (Running d) = ap Running (transfer-back d)
+dma-back : (m : Dma) (g : ℕ) → cond (eqb (present m) 0) Idle (Running (transferOf (replicate kind 0 ++ (transferNumbers m ++ (g ∷ []))))) ≡ m
+dma-back Idle g = refl
+dma-back (Running d) g = ap Running (transfer-back d g)
 
-idle-good : (m : Dma) → not (eqb (present m) 0) || allZero (take transferFields (transferNumbers m)) ≡ true
-idle-good Idle = refl
-idle-good (Running d) = refl
+granted-back : (m : Dma) (g : ℕ) → at (replicate kind 0 ++ (transferNumbers m ++ (g ∷ []))) grantedCycles ≡ g
+granted-back Idle g = refl
+granted-back (Running d) g = refl
+
+idle-good : (m : Dma) (g : ℕ) → not (eqb (present m) 0) || allZero (take transferFields (transferNumbers m ++ (g ∷ []))) ≡ true
+idle-good Idle g = refl
+idle-good (Running d) g = refl
 
 module _ (r : Reu) where
   abbrev listed : Reu
@@ -144,7 +148,8 @@ module _ (r : Reu) where
     «swap_refresh» = flag-back (moreBits r) 0 (omega arith) i;
     «swap_release_pending» = flag-back (moreBits r) 1 (omega arith) i;
     «swap_read_delay» = r .«swap_read_delay»;
-    dma = dma-back (r .dma) i;
+    dma = dma-back (r .dma) (r .«granted_cycles») i;
+    «granted_cycles» = granted-back (r .dma) (r .«granted_cycles») i;
   }
 
 module _ (r : Reu) (typed : Typed r) (ok : wellFormed r ≡ true) where
@@ -161,7 +166,7 @@ module _ (r : Reu) (typed : Typed r) (ok : wellFormed r ≡ true) where
   image-back = ap controllerOf numbers-back ∙ subst (λ (u : Reu). controllerOf (numbersOf u) ≡ u) listed-is (listed-back r)
 
   idle-ok : idleOk (numbersOf r) ≡ true
-  idle-ok = subst (λ (u : Reu). idleOk (numbersOf u) ≡ true) listed-is (idle-good (r .dma))
+  idle-ok = subst (λ (u : Reu). idleOk (numbersOf u) ≡ true) listed-is (idle-good (r .dma) (r .«granted_cycles»))
 
   image-good : imageOk (packImage r) ≡ true
   unfolding imageOk bytesOk

@@ -119,29 +119,33 @@ with-step h v p t =
 
 -- ---- the controller
 
--- the registers; the shadows; attached, the delay, the transfer
-pub record SoundFields (r : List ℕ) (c e n : ℕ) (a : Bool) (w : ℕ) (d : Dma) : Type 0 where
+-- the registers; the shadows; attached, the delay, the transfer; the count of granted cycles
+pub record SoundFields (r : List ℕ) (c e n : ℕ) (a : Bool) (w : ℕ) (d : Dma) (g : ℕ) : Type 0 where
   pub regs : SoundRegs r
   pub c64 : c < 65536
   pub exp : e < 16777216
   pub len : n < 65536
   pub delay : w < 3
   pub dma : SoundDma a d
+  pub granted : g < 4294967296
 
 abbrev pub Sound : Reu → Type 0
 Sound u =
-    SoundFields (u .regs) (u .«shadow_c64_addr») (u .«shadow_reu_addr») (u .«shadow_len») (u .attached) (u .«swap_read_delay») (u .dma)
+    SoundFields (u .regs) (u .«shadow_c64_addr») (u .«shadow_reu_addr») (u .«shadow_len») (u .attached) (u .«swap_read_delay») (u .dma) (u .«granted_cycles»)
 
 -- one of them replaced; a transfer with whether the storage is attached
-module _ {r : List ℕ} {c e n : ℕ} {a : Bool} {w : ℕ} {d : Dma} (s : SoundFields r c e n a w d) where
-  pub with-regs : {l : List ℕ} → SoundRegs l → SoundFields l c e n a w d
-  with-regs h = record { regs = h; c64 = s .c64; exp = s .exp; len = s .len; delay = s .delay; dma = s .dma }
+module _ {r : List ℕ} {c e n : ℕ} {a : Bool} {w : ℕ} {d : Dma} {g : ℕ} (s : SoundFields r c e n a w d g) where
+  pub with-regs : {l : List ℕ} → SoundRegs l → SoundFields l c e n a w d g
+  with-regs h = record { regs = h; c64 = s .c64; exp = s .exp; len = s .len; delay = s .delay; dma = s .dma; granted = s .granted }
 
-  pub with-shadows : {x y z : ℕ} → x < 65536 → y < 16777216 → z < 65536 → SoundFields r x y z a w d
-  with-shadows hx hy hz = record { regs = s .regs; c64 = hx; exp = hy; len = hz; delay = s .delay; dma = s .dma }
+  pub with-shadows : {x y z : ℕ} → x < 65536 → y < 16777216 → z < 65536 → SoundFields r x y z a w d g
+  with-shadows hx hy hz = record { regs = s .regs; c64 = hx; exp = hy; len = hz; delay = s .delay; dma = s .dma; granted = s .granted }
 
-  pub with-delay : {v : ℕ} → v < 3 → SoundFields r c e n a v d
-  with-delay h = record { regs = s .regs; c64 = s .c64; exp = s .exp; len = s .len; delay = h; dma = s .dma }
+  pub with-delay : {v : ℕ} → v < 3 → SoundFields r c e n a v d g
+  with-delay h = record { regs = s .regs; c64 = s .c64; exp = s .exp; len = s .len; delay = h; dma = s .dma; granted = s .granted }
 
-  pub with-dma : {b : Bool} {x : Dma} → SoundDma b x → SoundFields r c e n b w x
-  with-dma h = record { regs = s .regs; c64 = s .c64; exp = s .exp; len = s .len; delay = s .delay; dma = h }
+  pub with-dma : {b : Bool} {x : Dma} → SoundDma b x → SoundFields r c e n b w x g
+  with-dma h = record { regs = s .regs; c64 = s .c64; exp = s .exp; len = s .len; delay = s .delay; dma = h; granted = s .granted }
+
+  pub with-granted : {k : ℕ} → k < 4294967296 → SoundFields r c e n a w d k
+  with-granted h = record { regs = s .regs; c64 = s .c64; exp = s .exp; len = s .len; delay = s .delay; dma = s .dma; granted = h }

@@ -1,13 +1,13 @@
 -- Each call keeps a controller sound, and what it writes to the bus or the storage is a byte.
-use Prim.Native.Nat.{ℕ, zero, suc, _-_, _<_, _≤_}
+use Prim.Native.Nat.{ℕ, zero, suc, _+_, _-_, _<_, _≤_}
 use mathlib.Core.Bool.{Bool, true, false, cond, not, _&&_, _||_}
 use mathlib.Core.Path.{_≡_, refl, ap, _∙_}
 use mathlib.Core.List.{List}
 use lib.Bits.{bitAnd, bitOr, or-lt}
 use lib.ListN.{length, getD, set, replicate}
-use lib.Dec.{eqb, ltb}
+use lib.Dec.{eqb, leb, ltb}
 use native.Mathlib.Omega.{arith}
-use borrow.Author.Tests.{eqb-false}
+use borrow.Author.Tests.{eqb-false, leb-true}
 use Rattle.controller.specs.declared.reu.Reu.{Reu}
 use Rattle.controller.specs.declared.reu.ReadAnswer.{ReadAnswer}
 use Rattle.controller.specs.declared.reu.BusAnswer.{BusAnswer}
@@ -43,11 +43,11 @@ use Rattle.controller.specs.BusAction.{repeated, plain, fallOnRead, fallOnSwapW
 use Rattle.transfer.specs.Timing.{readAgain, restored, resumes, swapReads, swapWrites}
 use Rattle.controller.specs.TickDma.{advance, tickStore, tickRecall, swapRead, swapWrite, tickSwap, differs, withError, tickVerify, tickByType, tickRefresh, tickTail, tickRunning, tickOf, tickDma}
 use Rattle.transfer.specs.Dma.{seenBy}
-use Rattle.controller.specs.Cycle.{cycleBy, runReuCycle}
+use Rattle.controller.specs.Cycle.{counted, mostGranted, cycleBy, runReuCycle}
 use Rattle.transfer.proofs.Pick.{by-test}
 use Rattle.controller.proofs.WellFormed.{fst, snd}
 use Rattle.image.specs.Valid.{Bytes}
-use Rattle.image.proofs.Sound.{SoundRegs, fresh-regs, and-byte, set-each, store, plain-fits, cleared-fits, mask-fits, control-fits, raise, count-pair, count-all, SoundTransfer, SoundDma, with-step, Sound, with-regs, with-shadows, with-delay, with-dma}
+use Rattle.image.proofs.Sound.{SoundRegs, fresh-regs, and-byte, set-each, store, plain-fits, cleared-fits, mask-fits, control-fits, raise, count-pair, count-all, SoundTransfer, SoundDma, with-step, Sound, with-regs, with-shadows, with-delay, with-dma, with-granted}
 
 -- ---- read and write
 
@@ -88,7 +88,7 @@ sound-start : (u : Reu) → Sound u → Sound (startDma u)
 unfolding startDma
 sound-start u s =
     by-test Sound (u .attached) _ _
-    (λ att. with-dma (with-regs (with-delay s (omega arith)) (store 0 (s .regs) (cleared-fits 16 refl (s .regs .fits 0)))) (sound-requested u s att))
+    (λ att. with-granted (with-dma (with-regs (with-delay s (omega arith)) (store 0 (s .regs) (cleared-fits 16 refl (s .regs .fits 0)))) (sound-requested u s att)) (omega arith))
     (λ _. with-regs (with-delay s (omega arith)) (store 1 (s .regs) (plain-fits 1 refl (and-byte (reg u 1) 127 (s .regs .fits 1 .byte)))))
 
 sound-command : (u : Reu) (v : ℕ) → Sound u → v < 256 → Sound (writeCommand u v)
@@ -133,7 +133,7 @@ sound-trigger u s = by-test Sound (u .«waiting_ff00» && bit (reg u 1) 7) (star
 
 pub sound-fresh : (e a : Bool) → Sound (fresh e a)
 sound-fresh e a =
-    record { regs = fresh-regs e a; c64 = omega arith; exp = omega arith; len = omega arith; delay = omega arith; dma = tt }
+    record { regs = fresh-regs e a; c64 = omega arith; exp = omega arith; len = omega arith; delay = omega arith; dma = tt; granted = omega arith }
 
 attach : (a : Bool) (d : Dma) → SoundDma a d → SoundDma true d
 attach a Idle h = tt
@@ -325,6 +325,13 @@ pub record SoundState (P Q : List ℕ → Type 0) (u : Reu) (m s : List ℕ) : T
   pub bus : P m
   pub storage : Q s
 
+-- one more granted cycle still fits
+sound-counted : (u : Reu) → Sound u → Sound (counted u)
+unfolding counted
+sound-counted u s =
+    let n = u .«granted_cycles» + 1 in
+    with-granted s (by-test (λ (g : ℕ). g < 4294967296) (leb n mostGranted) n mostGranted (λ e. omega (arith, leb-true n mostGranted e)) (λ _. omega arith))
+
 module _ (P Q : List ℕ → Type 0) (p : Memory P) (q : Memory Q) where
   put-bus : (put : Put) (m : List ℕ) → FitsPut put → P m → P (putBus put m)
   put-bus Nothing m h b = b
@@ -370,7 +377,9 @@ module _ (P Q : List ℕ → Type 0) (p : Memory P) (q : Memory Q) where
   unfolding cycleBy
   cycle-by Cpu u m s cycle low h = h
   cycle-by Hold u m s cycle low h = h
-  cycle-by Transfer u m s cycle low h = sound-tick-dma u m s h cycle low
+  cycle-by Transfer u m s cycle low h =
+      let t = sound-tick-dma u m s h cycle low in
+      record { sound = sound-counted (tickDma u m s cycle low .0 .reu) (t .sound); bus = t .bus; storage = t .storage }
 
   pub sound-cycle : (u : Reu) (m s : List ℕ) → SoundState P Q u m s → (high phi1 : Bool) (cycle : ℕ) (low : Bool)
       → SoundState P Q (runReuCycle u m s high phi1 cycle low .0 .reu) (runReuCycle u m s high phi1 cycle low .1) (runReuCycle u m s high phi1 cycle low .2)

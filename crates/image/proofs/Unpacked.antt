@@ -16,7 +16,7 @@ use Rattle.image.specs.declared.Opened.{Opened}
 use Rattle.image.specs.Radix.{below}
 use Rattle.image.specs.Fields.{radices, values, laid, lifted}
 use Rattle.transfer.specs.Constants.{registerCount}
-use Rattle.image.specs.Layout.{fields, imageSize, at, shadowC64, shadowExp, shadowLength, flags, moreFlags, delay, transfer, kind, phase, transferC64, transferExp, remaining, latch, options, transferFields, phaseNumber, phaseOf, present, transferNumbers, numbersOf, packImage, transferOf, dmaIn, controllerOf, reuAt}
+use Rattle.image.specs.Layout.{fields, imageSize, at, shadowC64, shadowExp, shadowLength, flags, moreFlags, delay, transfer, kind, phase, transferC64, transferExp, remaining, latch, options, grantedCycles, transferFields, phaseNumber, phaseOf, present, transferNumbers, numbersOf, packImage, transferOf, dmaIn, controllerOf, reuAt}
 use Rattle.image.specs.Open.{allZero, idleOk, bytesOk, imageOk, openImage}
 use Rattle.image.specs.Valid.{Bytes, Typed, DmaTyped}
 use Rattle.image.proofs.Radix.{Below}
@@ -81,7 +81,7 @@ module _ (ns : List ℕ) (long : length ns ≡ count) (fit : Below (values field
   numbers-of =
       ap (λ (l : List ℕ). take registerCount ns ++ l)
       ((λ i. at ns shadowC64 ∷ at ns shadowExp ∷ at ns shadowLength ∷ flags-back 7 (at ns flags) (under flags (omega arith)) i ∷ flags-back 1 (at ns moreFlags) (under moreFlags (omega arith)) i
-      ∷ at ns delay ∷ tail .0 i ∷ tail .1 i)
+      ∷ at ns delay ∷ tail .0 i ∷ (tail .1 i ++ (at ns grantedCycles ∷ [])))
       ∙ gets-rest ns registerCount (count - registerCount) long)
       ∙ take-append-drop registerCount ns
 
@@ -99,6 +99,7 @@ module _ (ns : List ℕ) (long : length ns ≡ count) (fit : Below (values field
     c64-fits = under shadowC64 (omega arith);
     len-fits = under shadowLength (omega arith);
     dma-fits = dma-typed;
+    granted-fits = under grantedCycles (omega arith);
   }
 
 module _ (s : List ℕ) (whole : Bytes s) (long : length s ≡ imageSize) (ok : imageOk s ≡ true) where

@@ -53,6 +53,7 @@ sound-typed u s =
       c64-fits = s .c64;
       len-fits = s .len;
       dma-fits = dma-typed (u .attached) (u .dma) (s .dma);
+      granted-fits = s .granted;
     }
 
 -- the other way
@@ -105,6 +106,7 @@ sound-of u t e =
       dma =
           dma-sound (u .attached) (u .dma) (t .dma-fits)
           (snd (ltb (u .«shadow_reu_addr») 16777216) _ (snd (leb (u .«swap_read_delay») 2) _ e));
+      granted = t .granted-fits;
     }
 
 pub sound-bytes : (u : Reu) → Sound u → Bytes (packImage u)

@@ -14,9 +14,9 @@ use Rattle.transfer.specs.Dma.{typeNumber, typeOf}
 use Rattle.image.specs.Radix.{joined}
 use Rattle.image.specs.Fields.{size, laid, lifted}
 
--- "34 bytes, low byte first: 0-10 registers; 11-12, 13-15, 16-17 the shadows C64, expansion, length; 18 from bit 0: ..; 19 ..; 20 delay 0-2; 21
--- transfer present 0/1; 22 type 0-3; 23 phase ..; 24-25 C64 address; 26-28 expansion address; 29-31 remaining; 32 latch; 33 from bit 0: ..": of
--- each field its width in bytes, and how many values it has
+-- "low byte first: 0-10 registers; 11-12, 13-15, 16-17 the shadows C64, expansion, length; 18 from bit 0: ..; 19 ..; 20 delay 0-2; 21
+-- transfer present 0/1; 22 type 0-3; 23 phase ..; 24-25 C64 address; 26-28 expansion address; 29-31 remaining; 32 latch; 33 from bit 0: ..".
+-- L1: "The image grows to 38 bytes, the count at 34-37". Of each field its width in bytes, and how many values it has
 abbrev pub fields : List (ℕ × ℕ)
 fields =
     replicate registerCount (1, 256)
@@ -34,6 +34,7 @@ fields =
     ∷ (3, fullLength + 1)  -- remaining
     ∷ (1, 256)  -- latch
     ∷ (1, 2 ^ 6)  -- options
+    ∷ (4, 2 ^ 32)  -- granted cycles
     ∷ [])
 
 abbrev pub imageSize : ℕ
@@ -82,6 +83,9 @@ latch = remaining + 1
 
 abbrev pub options : ℕ
 options = latch + 1
+
+abbrev pub grantedCycles : ℕ
+grantedCycles = options + 1
 
 abbrev pub placeOf : ℕ → ℕ
 placeOf k = size (take k fields)
@@ -132,7 +136,7 @@ transferNumbers (Running d) =
 abbrev pub otherWith : Reu → Dma → List ℕ
 otherWith r m =
     r .«shadow_c64_addr» ∷ r .«shadow_reu_addr» ∷ r .«shadow_len» ∷ flagsOf (flagBits r) ∷ flagsOf (moreBits r) ∷ r .«swap_read_delay»
-    ∷ present m ∷ transferNumbers m
+    ∷ present m ∷ (transferNumbers m ++ (r .«granted_cycles» ∷ []))
 
 abbrev pub otherNumbers : Reu → List ℕ
 otherNumbers r = otherWith r (r .dma)
@@ -189,6 +193,7 @@ controllerOf ns = record {
   «swap_release_pending» = bit (at ns moreFlags) 1;
   «swap_read_delay» = at ns delay;
   dma = dmaIn ns;
+  «granted_cycles» = at ns grantedCycles;
 }
 
 unfoldable pub reuAt : List ℕ → Reu

@@ -1,5 +1,5 @@
 -- What the types of a controller's fields say, and that a list is bytes.
-use Rattle.controller.specs.Prelude.{ℕ, _<_, _≡_, List, getD, length}
+use Rattle.controller.specs.Prelude.{ℕ, _^_, _<_, _≡_, List, getD, length}
 use Rattle.transfer.specs.declared.dma.Dma.{Dma}
 use Rattle.transfer.specs.declared.dma.Dma.the-variants.{Idle, Running}
 use Rattle.controller.specs.declared.reu.Reu.{Reu}
@@ -18,3 +18,4 @@ pub record Typed (r : Reu) : Type 0 where
   pub c64-fits : r .«shadow_c64_addr» < 65536
   pub len-fits : r .«shadow_len» < 65536
   pub dma-fits : DmaTyped (r .dma)
+  pub granted-fits : r .«granted_cycles» < 2 ^ 32

@@ -29,4 +29,6 @@ pub const LATCH: usize = REMAINING + 3;
 
 pub const OPTIONS: usize = LATCH + 1;
 
-pub const IMAGE_BYTES: usize = OPTIONS + 1;
+pub const GRANTED_CYCLES: usize = OPTIONS + 1;
+
+pub const IMAGE_BYTES: usize = GRANTED_CYCLES + 4;

@@ -1,6 +1,7 @@
 // A controller laid down in an image, field by field.
 use crate::layout::DELAY;
 use crate::layout::FLAGS;
+use crate::layout::GRANTED_CYCLES;
 use crate::layout::IMAGE_BYTES;
 use crate::layout::LATCH;
 use crate::layout::MORE_FLAGS;
@@ -161,7 +162,7 @@ fn put_transfer(out: &mut [u8], d: DmaState)
     put(out, TRANSFER_EXPANSION, REMAINING, d.reu_addr.0);
     put(out, REMAINING, LATCH, d.remaining);
     put(out, LATCH, OPTIONS, d.latch as u32);
-    put(out, OPTIONS, IMAGE_BYTES, options(d) as u32);
+    put(out, OPTIONS, GRANTED_CYCLES, options(d) as u32);
 }
 
 // The image of a controller that opening would accept: a number that is too large would not fit its bytes.
@@ -186,4 +187,5 @@ pub(crate) fn pack(out: &mut [u8], reu: Reu)
     put(out, DELAY, TRANSFER, reu.swap_read_delay as u32);
     put(out, TRANSFER, TYPE, present_number(dma) as u32);
     put_transfer(out, transfer_of(dma));
+    put(out, GRANTED_CYCLES, IMAGE_BYTES, reu.granted_cycles);
 }

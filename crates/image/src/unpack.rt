@@ -133,6 +133,7 @@ pub(crate) fn controller_at(image: &[u8]) -> Reu
         swap_release_pending: more & 0x02 != 0,
         swap_read_delay: image[layout::DELAY],
         dma: dma,
+        granted_cycles: get(image, layout::GRANTED_CYCLES, layout::IMAGE_BYTES),
     }
 }
 

@@ -1,6 +1,6 @@
 use mathlib.Core.Path.{_≡_, _∙_, ap, ap₂}
 use mathlib.Core.List.{List}
-use Prim.Native.Nat.{ℕ}
+use Prim.Native.Nat.{ℕ, _<_}
 use native.Mathlib.Omega.{arith}
 use lib.ListN.{length}
 use lib.Seq.{sets}
@@ -8,7 +8,7 @@ use Rattle.controller.proofs.WellFormed.{well-range, well-shadow}
 use Rattle.image.specs.Fields.{laid}
 use Rattle.image.specs.Inner.{transferPart}
 use Rattle.transfer.specs.Constants.{registerCount}
-use Rattle.image.specs.Layout.{placeOf, shadowC64, shadowExp, shadowLength, flags, moreFlags, delay, transfer, kind}
+use Rattle.image.specs.Layout.{placeOf, shadowC64, shadowExp, shadowLength, flags, moreFlags, delay, transfer, kind, grantedCycles}
 use Rattle.image.proofs.ByBytes.{stored, over, over-is, over-long}
 use borrow.Author.Needs.{needs}
 use Rattle.image.proofs.pack.pack.Statement.{statement}
@@ -32,14 +32,21 @@ transfer-of-requires c κs =
     let at-start = c .before .before .before .before .before .before .before .before .before .before .before .before .before .before .before .before .before .before .before .before .before .before .before .before .before .before .before .before .before .before .before .before .before .before .before .before .before .before .before .before .before .before in
     well-range (at-start .args .reu) (at-start .pre .1)
 
-start : tie.After-slice-known10 → tie.Start
-start c = c .before .before .before .before .before .before .before .before .before .before .before .before .before .before .before .before .before .before .before .before .before .before .before .before .before .before .before .before .before .before .before .before .before .before .before .before .before .before .before .before .before .before .before .before .before .before
+granted-fits : (c : tie.Start) → c .args .reu .«granted_cycles» < 4294967296
+granted-fits c = search needs
+
+put-requires-8 : tie.Need-put-requires-8
+put-requires-8 c κs = granted-fits (c .before .before .before .before .before .before .before .before .before .before .before .before .before .before .before .before .before .before .before .before .before .before .before .before .before .before .before .before .before .before .before .before .before .before .before .before .before .before .before .before .before .before .before .before .before .before .before)
+
+start : tie.After-slice-known11 → tie.Start
+start c = c .before .before .before .before .before .before .before .before .before .before .before .before .before .before .before .before .before .before .before .before .before .before .before .before .before .before .before .before .before .before .before .before .before .before .before .before .before .before .before .before .before .before .before .before .before .before .before .before .before .before
 
 -- the stores one after another
-stores : (c : tie.After-slice-known10) → c .before .before .put-transfer .last .0 ≡ over (start c .args .reu) (start c .args .out .now)
+stores : (c : tie.After-slice-known11) → c .before .before .put8 .last .0 ≡ over (start c .args .reu) (start c .args .out .now)
 unfolding start
 stores c =
-    let at-put-transfer = c .before .before in
+    let at-put8 = c .before .before in
+    let at-put-transfer = at-put8 .before .before .before .before in
     let at-transfer-of = at-put-transfer .before in
     let at-put7 = at-transfer-of .before .before .before .before in
     let at-present-number = at-put7 .before in
@@ -61,7 +68,8 @@ stores c =
     let l5 = at-put5 .put5 .ensures ∙ ap₂ (stored moreFlags) l4 (at-more-flags .more-flags .ensures) in
     let l6 = at-put6 .put6 .ensures ∙ ap (λ (l : List ℕ). stored delay l (r .«swap_read_delay»)) l5 in
     let l7 = at-put7 .put7 .ensures ∙ ap₂ (stored transfer) l6 (at-present-number .present-number .ensures) in
-    at-put-transfer .put-transfer .ensures ∙ ap₂ (λ (l ns : List ℕ). sets l (placeOf kind) (laid transferPart ns)) l7 (at-transfer-of .transfer-of .ensures .0)
+    let l8 = at-put-transfer .put-transfer .ensures ∙ ap₂ (λ (l ns : List ℕ). sets l (placeOf kind) (laid transferPart ns)) l7 (at-transfer-of .transfer-of .ensures .0) in
+    at-put8 .put8 .ensures ∙ ap (λ (l : List ℕ). stored grantedCycles l (r .«granted_cycles»)) l8
 
 same-length : tie.Need-same-length
 unfolding start
@@ -82,4 +90,4 @@ pack-spec =
     (λ c. search needs) (λ c κs. search needs) (λ c κs. search needs) (λ c. search needs) (λ c κs. search needs)
     (λ c κs. search needs) (λ c. search needs) (λ c κs. search needs) (λ c. search needs) (λ c κs. search needs)
     (λ c κs. search needs) (λ c. search needs) (λ c κs. search needs) transfer-of-requires
-    (λ c κs. search needs) same-length returns)
+    (λ c κs. search needs) put-requires-8 same-length returns)
