@@ -29,18 +29,18 @@ use Rattle.regs.specs.FinishDma.{irqDue, counters, finishedStatus, finished, au
 use Rattle.controller.specs.FinishDma.{publishLiveCounters, finishDma, updateIrq}
 use Rattle.controller.specs.BusAction.{busAction, nextAction, granted, decide, fall, plain, repeated}
 use Rattle.controller.specs.TickDma.{Ticked, ticked, tickDma, tickOf, tickRunning, tickByType, tickSwap, swapRead, swapWrite, advance}
-use Rattle.controller.specs.Cycle.{runReuCycle, cycleBy}
+use Rattle.controller.specs.Cycle.{runReuCycle, counted, cycleBy}
 
 -- whoever unfolds this unfolds all that a cycle of a swap computes
 cycle-computed : Unit {0}
-unfolding runReuCycle cycleBy busAction nextAction decide fall plain actionForCycle c64Access repeated tickDma tickOf tickRunning tickByType tickSwap swapRead swapWrite advance publishLiveCounters
+unfolding runReuCycle counted cycleBy busAction nextAction decide fall plain actionForCycle c64Access repeated tickDma tickOf tickRunning tickByType tickSwap swapRead swapWrite advance publishLiveCounters
 cycle-computed = tt
 
 -- u with the fields that choose what a cycle does replaced
 abbrev ready : Reu → Bool → Bool → ℕ → Bool → Bool → Dma → Reu
 ready u terminal refresh delay attached high d =
     reuOf (u .regs) (u .«shadow_c64_addr») (u .«shadow_reu_addr») (u .«shadow_len») (u .enabled) (u .«irq_pending») attached (u .«waiting_ff00»)
-    high (u .«recall_repeat») terminal (u .«late_ba_fall») refresh (u .«swap_release_pending») delay d
+    high (u .«recall_repeat») terminal (u .«late_ba_fall») refresh (u .«swap_release_pending») delay d (u .«granted_cycles»)
 
 -- a swap's transfer state, no address fixed
 abbrev pub swapState : SwapPhase → ℕ → ℕ → ℕ → ℕ → Bool → Bool → Bool → DmaState
@@ -284,12 +284,12 @@ pub record IdleStep (u : Reu) (m s : List ℕ) (t : Ticked) : Type 0 where
   pub storage : t .2 ≡ s
   pub kept : Kept (withDma u Idle) (t .0 .reu)
 
--- other flags and another delay, and no transfer
-still : {answer waiting was repeat terminal late refresh release : Bool} {delay : ℕ} (u : Reu) (m s : List ℕ)
+-- other flags, another delay, another count of granted cycles, and no transfer
+still : {answer waiting was repeat terminal late refresh release : Bool} {delay count : ℕ} (u : Reu) (m s : List ℕ)
     → IdleStep u m s (
       ticked answer
           (reuOf (u .regs) (u .«shadow_c64_addr») (u .«shadow_reu_addr») (u .«shadow_len») (u .enabled) (u .«irq_pending») (u .attached) waiting was repeat terminal late
-          refresh release delay Idle),
+          refresh release delay Idle count),
       m,
       s,
     )
@@ -304,7 +304,7 @@ idle-choice : (u : Reu) (refresh high : Bool) (delay : ℕ) (m s : List ℕ) (n 
     → (v : Reu) → v ≡ before-choice u refresh high delay
     → (g : BusAnswer) → g ≡ cond none (granted Cpu v) (granted (cond last Transfer Hold) (withDelay v (delay - 1)))
     → IdleStep u m s (cycleBy (g .action) (g .reu) m (putStorage (g .put) s) n low)
-unfolding cycleBy tickDma tickOf
+unfolding counted cycleBy tickDma tickOf
 idle-choice u refresh high delay m s n low false true v p g q = rw (q, p) (still u m s)
 idle-choice u refresh high delay m s n low false false v p g q = rw (q, p) (still u m s)
 idle-choice u refresh high delay m s n low true last v p g q = rw (q, p) (still u m s)

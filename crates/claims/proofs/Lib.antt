@@ -2,6 +2,7 @@ pub mod Accepted
 pub mod States
 pub mod Walk
 pub mod SavedMachine
+pub mod GrantedLaw
 pub mod CycleLaw
 pub mod RegisterLaw
 pub mod Exchange
@@ -11,3 +12,4 @@ pub mod Outcome
 pub mod SomeRuns
 pub mod SwapTwice
 pub mod Sessions
+pub mod GrantedCycles

@@ -8,26 +8,30 @@ use lib.ListN.{length, getD, drop, List·getD-append}
 use lib.Seq.{getD-append-add, getD-take}
 use lib.Bits.{or-mod, or-zero-r, and-mask}
 use native.Mathlib.Omega.{arith}
-use borrow.Author.Tests.{eq-eqb, lt-ltb}
+use borrow.Author.Tests.{lt-ltb}
 use Rattle.transfer.specs.declared.dma.Dma.{Dma}
 use Rattle.transfer.specs.declared.dma.Dma.the-variants.{Idle, Running}
 use Rattle.transfer.specs.Bytes.{bit}
 use Rattle.controller.specs.Reu.{reg}
 use Rattle.transfer.proofs.Bits.{bit-zero, zero-bit}
 use Rattle.controller.specs.Registers.{readAt, readRegister, debugRegister as core-debugRegister}
-use Rattle.image.specs.Fields.{laid}
-use Rattle.image.specs.Layout.{fields, imageSize, packImage, reuAt, present, otherNumbers}
+use Rattle.controller.specs.declared.reu.Reu.{Reu}
+use Rattle.image.specs.declared.Opened.{Opened}
+use Rattle.image.specs.Fields.{laid, lifted}
+use Rattle.image.specs.Open.{openImage}
+use Rattle.image.specs.Layout.{fields, imageSize, at, flags, grantedCycles, packImage, reuAt, present, otherNumbers}
 use Rattle.reu.specs.Exports.{reuDebugRegister}
 use Rattle.claims.specs.Calls.{Held, debugRegister, read, other}
 use Rattle.claims.specs.SwapTwice.{byte, Start, OfBlock, Shown, Ended}
-use Rattle.image.proofs.Opening.{opened-long}
-use Rattle.image.proofs.Packed.{pack-is}
-use Rattle.image.proofs.ByBytes.{registers-are, flags-byte, dma-none}
+use Rattle.image.proofs.Opening.{opened-is as opening-is, opened-long}
+use Rattle.image.proofs.Packed.{open-pack, pack-is, pack-long}
+use Rattle.image.proofs.ByBytes.{listed, registers-are, flags-byte, dma-none}
 use Rattle.image.proofs.Sound.{Sound}
-use Rattle.image.proofs.Valid.{open-sound, pack-back}
+use Rattle.image.proofs.Valid.{open-sound, pack-back, sound-well, sound-typed}
 use Rattle.claims.proofs.States.{St, held, Ready, ready-of}
 use Rattle.claims.proofs.Accepted.{alone, answer-is}
-use Rattle.claims.specs.Constants.{transferByte}
+use Rattle.claims.specs.Constants.{flagsByte, transferByte}
+use Rattle.claims.specs.GrantedCycles.{number}
 use Rattle.claims.proofs.RegisterLaw.{Value, Seven, two, three, four, five, six, seven, eight, is-seven}
 
 upper-bits : (v : ℕ) → v < 256 → v / 64 % 2 ≡ 0 → v / 128 % 2 ≡ 0 → v / 64 ≡ 0
@@ -53,6 +57,41 @@ module _ (x : St) (sound : Sound (x .u)) where
   present-byte =
       ap (λ (l : List ℕ). getD l transferByte 0) (pack-is (x .u) regs-11)
       ∙ ap (λ (i : ℕ). getD (x .u .regs ++ others) i 0) (omega (arith, regs-11)) ∙ getD-append-add (x .u .regs) others 10 0
+
+  -- what the image opens as
+  reopened : reuAt (packImage (x .u)) ≡ x .u
+  reopened = ap (λ (o : Opened). o .reu) (sym (opening-is (packImage (x .u)) accepted) ∙ again)
+    where
+      again : openImage (packImage (x .u)) ≡ record { refusal = 0; reu = x .u }
+      again = open-pack (x .u) (sound-typed (x .u) sound) (sound-well (x .u) sound)
+
+      accepted : openImage (packImage (x .u)) .refusal ≡ 0
+      accepted = ap (λ (o : Opened). o .refusal) again
+
+  whole : length (packImage (x .u)) ≡ imageSize
+  whole = pack-long (x .u) (sound-typed (x .u) sound) (sound-well (x .u) sound)
+
+  -- bits of the flags
+  flag-bit : (i : ℕ) → bit (byte (held x) flagsByte) i ≡ bit (at (lifted fields (packImage (x .u))) flags) i
+  flag-bit i = ap (λ (v : ℕ). bit v i) (sym (flags-byte (packImage (x .u)) whole))
+
+  pub irq-bit : bit (byte (held x) flagsByte) 1 ≡ x .u .«irq_pending»
+  unfolding reuAt
+  irq-bit = flag-bit 1 ∙ ap (λ (u : Reu). u .«irq_pending») reopened
+
+  pub attached-bit : bit (byte (held x) flagsByte) 2 ≡ x .u .attached
+  unfolding reuAt
+  attached-bit = flag-bit 2 ∙ ap (λ (u : Reu). u .attached) reopened
+
+  pub armed-bit : bit (byte (held x) flagsByte) 3 ≡ x .u .«waiting_ff00»
+  unfolding reuAt
+  armed-bit = flag-bit 3 ∙ ap (λ (u : Reu). u .«waiting_ff00») reopened
+
+  -- the count of granted cycles, from its four bytes
+  pub count-number : number (held x) ≡ x .u .«granted_cycles»
+  unfolding reuAt
+  count-number =
+      omega (arith, ap (λ (l : List ℕ). at (lifted fields l) grantedCycles) (listed (packImage (x .u)) whole), ap (λ (u : Reu). u .«granted_cycles») reopened)
 
   pub idle-byte : byte (held x) transferByte ≡ 0 → x .u .dma ≡ Idle
   idle-byte e = go (x .u .dma) (sym present-byte ∙ e)

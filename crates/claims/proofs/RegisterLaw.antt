@@ -20,7 +20,7 @@ use Rattle.transfer.specs.declared.dma.TransferType.the-variants.{Store, Recall
 use Rattle.transfer.specs.declared.dma.SwapPhase.the-variants.{ReadC64}
 use Rattle.transfer.specs.Bytes.{bit, word, long, withLow, withHigh, withBank}
 use Rattle.transfer.proofs.Bits.{zero-bit}
-use Rattle.controller.specs.Reu.{reg, setReg, withIrq, withArmed, withDma, cleared}
+use Rattle.controller.specs.Reu.{reg, setReg, withIrq, withArmed, withDma, withGranted, cleared}
 use Rattle.regs.specs.Registers.{shown}
 use Rattle.regs.specs.StartDma.{requested}
 use Rattle.controller.specs.Registers.{writeAt, writeC64, writeExp, writeLen, readRegister, writeRegister, writeCommand}
@@ -94,7 +94,7 @@ module _ (u : Reu) (v : ℕ) (len : length (u .regs) ≡ 11) (att : u .attached 
           ∙ zero-bit (reg u 10) 6 (omega arith)
 
   started-as : Reu
-  started-as = withDma (withIrq (setReg (cleared (setReg u 1 v)) 0 (bitAnd (reg (setReg u 1 v) 0) 16)) false) (Running (requested (setReg u 1 v .regs)))
+  started-as = withGranted (withDma (withIrq (setReg (cleared (setReg u 1 v)) 0 (bitAnd (reg (setReg u 1 v) 0) 16)) false) (Running (requested (setReg u 1 v .regs)))) 0
 
   command-starts : writeCommand u v ≡ started-as
   unfolding started-as writeCommand startDma requested

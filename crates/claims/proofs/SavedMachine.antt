@@ -23,10 +23,17 @@ pub round-trips : RoundTrips
 round-trips = record { opened = open-pack; bytes = pack-bytes; packed = pack-opened }
 
 -- an image that holds a sound controller
-record Holds (image : List ℕ) : Type 0 where
-  reu : Reu
-  sound : Sound reu
-  packed : image ≡ packImage reu
+pub record Holds (image : List ℕ) : Type 0 where
+  pub reu : Reu
+  pub sound : Sound reu
+  pub packed : image ≡ packImage reu
+
+-- a new one does, and an accepted one
+abbrev pub new-holds : (i : List ℕ) → i ≡ packImage newReu → Holds i
+new-holds i e = record { reu = newReu; sound = sound-fresh false false; packed = e }
+
+pub accepted-holds : (i : List ℕ) → Bytes i → openImage i .refusal ≡ 0 → Holds i
+accepted-holds i b z = record { reu = reuAt i; sound = open-sound i b z; packed = sym (pack-back i b z) }
 
 holds-opens : (i : List ℕ) → Holds i → Opens i
 holds-opens i h =
@@ -52,7 +59,7 @@ leaves-holds c f h ok =
 
 -- ---- lists of calls
 
-one-call : (k : Held) (c : Call) → (accepts c ≡ true → c .lent .image ≡ k .image) → Fits c → Holds (k .image)
+pub one-call : (k : Held) (c : Call) → (accepts c ≡ true → c .lent .image ≡ k .image) → Fits c → Holds (k .image)
     → (b : Bool) → accepts c ≡ b → Holds (next k c .image)
 one-call k c lent f h true ok =
     subst (λ (b : Bool). Holds (cond b (leaves c) k .image)) (sym ok) (leaves-holds c f (subst Holds (sym (lent ok)) h) ok)
@@ -67,10 +74,8 @@ pub every-state-opens : EveryStateOpens
 every-state-opens =
     record {
       stays = λ c f z ok.
-          let i = c .lent .image in
-          let h : Holds i = record { reu = reuAt i; sound = open-sound i (f .image) z; packed = sym (pack-back i (f .image) z) } in
-          let o = holds-opens (leaves c .image) (leaves-holds c f h ok) in ap (λ (x : Opened). x .refusal) (o .opened);
+          let o = holds-opens (leaves c .image) (leaves-holds c f (accepted-holds (c .lent .image) (f .image) z) ok) in ap (λ (x : Opened). x .refusal) (o .opened);
       opens = λ k calls e l.
           holds-opens (after k calls .image)
-          (calls-hold calls k (l .lent) (l .fits) (record { reu = newReu; sound = sound-fresh false false; packed = e }));
+          (calls-hold calls k (l .lent) (l .fits) (new-holds (k .image) e));
     }

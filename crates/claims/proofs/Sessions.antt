@@ -2,7 +2,7 @@
 use Prim.Native.Nat.{ℕ}
 use mathlib.Core.Bool.{Bool, true, false, not}
 use mathlib.Core.Logic.{_≢_}
-use mathlib.Core.Path.{_≡_, refl, sym, ap, _∙_}
+use mathlib.Core.Path.{_≡_, refl, ap, _∙_}
 use mathlib.Core.List.{List, [], _∷_, _++_}
 use lib.ListN.{length, getD, set, length-set}
 use lib.Seq.{getD-set-same, getD-set-other}
@@ -24,24 +24,18 @@ use Rattle.controller.specs.FinishDma.{publishLiveCounters, finishDma, updateIr
 use Rattle.controller.specs.Enable.{newReu, connected, setEnabled as core-setEnabled}
 use Rattle.controller.specs.BusAction.{busAction as core-busAction, nextAction, decide, fall, fallOnRead, fallOnSwapWrite, plain, fallOnWrite, repeated}
 use Rattle.controller.specs.TickDma.{tickDma as core-tickDma, tickOf, tickRunning, tickByType, tickStore, tickRecall, tickSwap, tickVerify, tickTail, swapRead, swapWrite, tickRefresh, advance, withError}
-use Rattle.controller.specs.Cycle.{runReuCycle, cycleBy}
+use Rattle.controller.specs.Cycle.{runReuCycle, counted, cycleBy}
 use Rattle.controller.specs.Calls.{readCall}
 use Rattle.transfer.specs.Timing.{actionNumber}
-use Rattle.image.specs.declared.Opened.{Opened}
-use Rattle.image.specs.Layout.{packImage, reuAt}
-use Rattle.image.specs.Open.{openImage}
-use Rattle.image.proofs.Opening.{opened-is, opened-long}
-use Rattle.image.proofs.ByBytes.{flags-byte}
-use Rattle.transfer.specs.Bytes.{bit}
-use Rattle.image.proofs.Packed.{open-pack}
 use Rattle.reu.specs.Exports.{flag}
-use Rattle.claims.specs.Calls.{Held, Memories, setEnabled, triggerFf00, busAction, debugRegister, Kind, read, write, cycle, other, NumbersFit, Done, does, grantOf}
+use Rattle.claims.specs.Calls.{Held, Memories, reset, setEnabled, triggerFf00, busAction, debugRegister, tickDma, Kind, read, write, cycle, other, NumbersFit, Done, does, grantOf}
 use Rattle.claims.specs.Sessions.{play, answers, grants, shows, eleven, level, begin, ticks, r4, r5, r10, r13, r14, r16, new, enabled, run, Table, Sessions}
 use Rattle.image.proofs.Sound.{Sound}
 use Rattle.image.proofs.SoundCalls.{sound-fresh}
-use Rattle.image.proofs.Valid.{sound-well, sound-typed}
 use Rattle.claims.proofs.States.{St, held, stepOf, valueOf, Ready, ready-of, ready-step}
 use Rattle.claims.proofs.Accepted.{does-is, ready-number}
+use Rattle.claims.proofs.Look.{irq-bit, count-number}
+use Rattle.claims.specs.GrantedCycles.{number, Counted}
 
 -- ---- scripts, on the controller
 
@@ -114,12 +108,7 @@ module _ (x : St) (g : Ready x) where
       shows-is 9 i ∷ shows-is 10 i ∷ []
 
   level-is : level (held x) ≡ x .u .«irq_pending»
-  unfolding reuAt
-  level-is =
-      let o : openImage (packImage (x .u)) ≡ record { refusal = 0; reu = x .u } = open-pack (x .u) (sound-typed (x .u) (g .sound)) (sound-well (x .u) (g .sound)) in
-      let z : openImage (packImage (x .u)) .refusal ≡ 0 = ap (λ (y : Opened). y .refusal) o in
-      ap (λ (v : ℕ). bit v 1) (sym (flags-byte (packImage (x .u)) (opened-long (packImage (x .u)) z)))
-      ∙ ap (λ (u : Reu). u .«irq_pending») (ap (λ (y : Opened). y .reu) (sym (opened-is (packImage (x .u)) z) ∙ o))
+  level-is = irq-bit x (g .sound)
 
 -- ---- scripts from "new", and from "new, enabled"
 
@@ -173,6 +162,9 @@ module _ (m s : List ℕ) (mem : Memories m s) where
     level-of : level (run m s ds) ≡ to ds (start m s) .u .«irq_pending»
     level-of = ap level played ∙ level-is (to ds (start m s)) ready-played
 
+    number-of : number (run m s ds) ≡ to ds (start m s) .u .«granted_cycles»
+    number-of = ap number played ∙ count-number (to ds (start m s)) (ready-played .sound)
+
     -- and calls after it
     answers-of : (es : List Kind) → AllFit es → answers es (run m s ds) ≡ values es (to ds (start m s))
     answers-of es fe = ap (answers es) played ∙ answers-are es (to ds (start m s)) ready-played fe
@@ -184,7 +176,7 @@ module _ (m s : List ℕ) (mem : Memories m s) where
 
 -- whoever unfolds this unfolds all that a session computes
 calls-computed : Unit {0}
-unfolding runReuCycle cycleBy core-busAction nextAction decide fall fallOnRead fallOnSwapWrite plain fallOnWrite actionForCycle core-c64Access repeated core-tickDma tickOf tickRunning tickByType tickStore tickRecall tickSwap tickVerify tickTail swapRead swapWrite tickRefresh advance publishLiveCounters readRegister writeRegister writeCommand core-debugRegister startDma core-triggerFf00 requested typeOf lengthOf finishDma updateIrq
+unfolding runReuCycle counted cycleBy core-busAction nextAction decide fall fallOnRead fallOnSwapWrite plain fallOnWrite actionForCycle core-c64Access repeated core-tickDma tickOf tickRunning tickByType tickStore tickRecall tickSwap tickVerify tickTail swapRead swapWrite tickRefresh advance publishLiveCounters readRegister writeRegister writeCommand core-debugRegister startDma core-triggerFf00 requested typeOf lengthOf finishDma updateIrq
 calls-computed = tt
 
 -- two bytes stored, at the last place and at the first
@@ -195,7 +187,8 @@ last-and-first s a b h = (
   getD-set-same (set s 524287 a) 0 b 0 (omega (arith, length-set s 524287 a)),
 )
 
--- verify: the controller when the command has started; after the first byte; and after the comparison that a mismatch leaves
+-- verify: the controller when the command has started; after the first byte; and after the comparison that a mismatch leaves. Each cycle
+-- is counted
 asked : ℕ → Reu
 asked n = to (begin 0 0 n 0x93) (start [] []) .u
 
@@ -203,17 +196,17 @@ compared : ℕ → Bool → TickAnswer
 compared n equal = advance (withError (asked n) (not equal)) (requested (asked n .regs)) (not equal) false Nothing
 
 tailed : Bool → Reu
-tailed equal = finishDma (compared 2 false .reu) (withTail (moved (requested (asked 2 .regs))) true) (not (not equal))
+tailed equal = counted (finishDma (counted (compared 2 false .reu)) (withTail (moved (requested (asked 2 .regs))) true) (not (not equal)))
 
 module _ (m s : List ℕ) (ne : getD m 0 0 ≢ getD s 0 0) where
-  one-differs : to (begin 0 0 3 0x93 ++ ticks 1) (start m s) .u ≡ compared 3 false .reu
+  one-differs : to (begin 0 0 3 0x93 ++ ticks 1) (start m s) .u ≡ counted (compared 3 false .reu)
   unfolding calls-computed asked compared
-  one-differs = ap (λ (b : Bool). compared 3 b .reu) (ne-eqb (getD m 0 0) (getD s 0 0) ne)
+  one-differs = ap (λ (b : Bool). counted (compared 3 b .reu)) (ne-eqb (getD m 0 0) (getD s 0 0) ne)
 
   two-compared : (equal : Bool) → eqb (getD m 1 0) (getD s 1 0) ≡ equal → to (begin 0 0 2 0x93 ++ ticks 2) (start m s) .u ≡ tailed equal
   unfolding calls-computed asked compared tailed
   two-compared equal e =
-      ap (λ (b : Bool). let t = compared 2 b in runReuCycle (t .reu) (putBus (t .put) m) (putStorage (t .put) s) true true 0 false .0 .reu)
+      ap (λ (b : Bool). let t = compared 2 b in runReuCycle (counted (t .reu)) (putBus (t .put) m) (putStorage (t .put) s) true true 0 false .0 .reu)
       (ne-eqb (getD m 0 0) (getD s 0 0) ne) ∙ ap tailed e
 
 -- the swap that meets a late fall, on lists that have a first byte
@@ -281,3 +274,19 @@ table m s mem =
 
 pub sessions : Sessions
 sessions = table
+
+-- ---- the count of granted cycles
+
+pub scripts : (m s : List ℕ) → Memories m s → Counted m s
+unfolding calls-computed core-setEnabled
+scripts m s mem =
+    record {
+      store = number-of m s mem r4 (omega arith);
+      disabled = number-of m s mem (r4 ++ (other (setEnabled 0) ∷ other (setEnabled 1) ∷ [])) (omega arith);
+      held = number-of m s mem (begin 0 0 1 0x92 ++ r16) (omega arith);
+      armed = number-of m s mem (r4 ++ begin 0 0 1 0x80) (omega arith);
+      triggered = number-of m s mem (r4 ++ (begin 0 0 1 0x80 ++ (other triggerFf00 ∷ []))) (omega arith);
+      started = number-of m s mem (r4 ++ begin 0 0 1 0x90) (omega arith);
+      renewed = number-of m s mem (r4 ++ (other (reset 0) ∷ [])) (omega arith);
+      ticked = number-of m s mem (begin 0 0 1 0x90 ++ (other (tickDma 0 0) ∷ [])) (omega arith);
+    }

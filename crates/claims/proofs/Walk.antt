@@ -58,7 +58,7 @@ each-at P k cs t e =
 
 -- ---- the next state
 
-number-at : (x : St) (c : Call) → Sound (x .u) → accepts c ≡ true → c .lent ≡ held x → numberOf (c .kind) x ≡ 0
+pub number-at : (x : St) (c : Call) → Sound (x .u) → accepts c ≡ true → c .lent ≡ held x → numberOf (c .kind) x ≡ 0
 number-at x c sound ok le =
     accepted-number x sound (c .kind) (ap (λ (h : Held). accepts (record { kind = c .kind; lent = h })) (sym le) ∙ ok)
 

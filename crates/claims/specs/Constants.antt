@@ -1,14 +1,17 @@
 -- The numbers that only the claims cite.
 use Prim.Native.Nat.{ℕ}
-use Rattle.image.specs.Layout.{placeOf, flags, transfer}
+use Rattle.image.specs.Layout.{placeOf, flags, transfer, grantedCycles}
 
 -- registers come again every 32 addresses
 abbrev pub registerWindow : ℕ
 registerWindow = 32
 
--- the image's bytes of flags and of whether a transfer is there
+-- the image's bytes of flags and of whether a transfer is there, and the first of the count of granted cycles
 abbrev pub flagsByte : ℕ
 flagsByte = placeOf flags
 
 abbrev pub transferByte : ℕ
 transferByte = placeOf transfer
+
+abbrev pub countByte : ℕ
+countByte = placeOf grantedCycles

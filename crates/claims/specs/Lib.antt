@@ -3,3 +3,4 @@ pub mod Calls
 pub mod SwapTwice
 pub mod SavedMachine
 pub mod Sessions
+pub mod GrantedCycles

@@ -1,4 +1,5 @@
 // The claims about whole runs of the exported calls. Each function does nothing: its `ensures` is the claim.
+ghost use Rattle.claims.specs.GrantedCycles.{GrantedCycles};
 ghost use Rattle.claims.specs.SavedMachine.{EveryStateOpens, RoundTrips};
 ghost use Rattle.claims.specs.Sessions.{Sessions};
 ghost use Rattle.claims.specs.SwapTwice.{SwapTwice};
@@ -22,4 +23,9 @@ pub fn every_state_opens()
 // The recorded sessions R1 to R14 and R16.
 pub fn recorded_sessions()
     ensures { λ r. ⌜ Sessions ⌝ }
+{}
+
+// The count of granted cycles in the image is the number of cycle calls that were granted since the last new, reset or start with storage.
+pub fn granted_cycles()
+    ensures { λ r. ⌜ GrantedCycles ⌝ }
 {}
