@@ -197,7 +197,11 @@ static void save_and_open(struct machine *m, const char *path) {
     expect("equal when only one went on", (unsigned long)machine_equal(m, &opened), 0);
     expect("cycles of the opened", run_to_end(&opened), 7);
     expect("equal at the end", (unsigned long)machine_equal(m, &opened), 1);
-    printf("  both ended with the same %d + %d + %d bytes\n", REU_IMAGE_SIZE, REU_BUS_SIZE, REU_STORAGE_SIZE);
+    /* The count of granted cycles is part of the image: it goes on where the swap was saved, and the end leaves it. */
+    uint32_t granted = reu_granted_cycles(opened.image);
+    expect("granted cycles", granted, 3 + 7);
+    printf("  both ended with the same %d + %d + %d bytes, the swap was granted %lu cycles in all\n", REU_IMAGE_SIZE,
+           REU_BUS_SIZE, REU_STORAGE_SIZE, (unsigned long)granted);
     machine_free(&opened);
 }
 

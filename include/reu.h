@@ -6,7 +6,7 @@
  * source on the language's abstract machine (the compiler's back end is not covered).
  * It allocates nothing and keeps nothing between calls: everything stands in three buffers of the host.
  *
- *   image    REU_IMAGE_SIZE bytes  the whole controller: registers, flags and the running transfer
+ *   image    REU_IMAGE_SIZE bytes  the whole controller: registers, flags, the running transfer and a count
  *   bus      65,536 bytes          the memory that the controller sees as the C64's
  *   storage  524,288 bytes         the expansion memory
  *
@@ -46,6 +46,13 @@
  * ba_high_phi1  true if the VIC's BA is high at PHI1 of this cycle: the input that holds a transfer
  * ba_high       true if BA is high in this cycle; false beside a true ba_high_phi1 means that BA falls late in it
  * ba_low        true if the VIC has BA low; matters only in the tick that ends a swap (see reu_cpu_ready_after_dma)
+ *
+ * THE COUNT OF GRANTED CYCLES
+ * So that a host can show how many bus cycles a command was granted, the controller counts: one more for each
+ * reu_run_reu_cycle() whose grant is Transfer, up to 4,294,967,295, where the count stays. reu_new(), reu_reset() and
+ * each start that has storage, by reu_write() or reu_trigger_ff00(), set it to 0. Nothing else changes it: no other
+ * call, not arming, not the end of a command, not a start without storage. reu_granted_cycles() reads it from an image;
+ * no register shows it. The original has no such count.
  *
  * LEFT TO THE HOST
  * Address map, VIC and cartridges, and the enabled flag: no call obeys it. A host passes register accesses on only
@@ -126,9 +133,10 @@ extern "C" {
  * THE IMAGE
  * An image may be copied, kept in a file and compared byte by byte: two accepted images are equal exactly if their
  * controllers are. An image, a bus and a storage together are a saved machine. Numbers of more than one byte have their
- * low byte first. Registers and shadows may have any value; the other fields are refused (2) outside the values given,
- * and so are a transfer while the storage is not attached, a write phase without swap, and a verify tail without verify
- * or with a remaining length other than 1. Without a transfer all bytes from REU_IMAGE_TYPE on are 0.
+ * low byte first. Registers, shadows and the count may have any value; the other fields are refused (2) outside the
+ * values given, and so are a transfer while the storage is not attached, a write phase without swap, and a verify tail
+ * without verify or with a remaining length other than 1. Without a transfer all bytes from REU_IMAGE_TYPE up to
+ * REU_IMAGE_GRANTED_CYCLES are 0.
  * Each place is the one before plus its width, so a field reaches up to the next place.
  */
 #define REU_IMAGE_REGISTERS 0                                    /* by index, as held */
@@ -146,7 +154,8 @@ extern "C" {
 #define REU_IMAGE_REMAINING (REU_IMAGE_EXPANSION_ADDRESS + 3)    /* the bytes that are left: 1 to 65,536 */
 #define REU_IMAGE_LATCH (REU_IMAGE_REMAINING + 3)                /* any byte */
 #define REU_IMAGE_TRANSFER_FLAGS (REU_IMAGE_LATCH + 1)           /* REU_TRANSFER_FIX_C64 to REU_TRANSFER_TAIL only */
-#define REU_IMAGE_SIZE (REU_IMAGE_TRANSFER_FLAGS + 1)            /* the length of an image */
+#define REU_IMAGE_GRANTED_CYCLES (REU_IMAGE_TRANSFER_FLAGS + 1)  /* the count of granted cycles: 4 bytes */
+#define REU_IMAGE_SIZE (REU_IMAGE_GRANTED_CYCLES + 4)            /* the length of an image: 38 */
 
 /* Byte REU_IMAGE_FLAGS. */
 #define REU_FLAG_ENABLED 0x01
@@ -195,17 +204,26 @@ static inline uint32_t reu_interrupt_level(const uint8_t *image) {
     return (image[REU_IMAGE_FLAGS] & REU_FLAG_INTERRUPT) != 0 ? 1u : 0u;
 }
 
+/*
+ * The count of granted cycles of an image of REU_IMAGE_SIZE bytes. Only its four bytes are looked at, whether the calls
+ * accept the image or refuse it (2).
+ */
+static inline uint32_t reu_granted_cycles(const uint8_t *image) {
+    const uint8_t *count = image + REU_IMAGE_GRANTED_CYCLES;
+    return (uint32_t)count[0] | (uint32_t)count[1] << 8 | (uint32_t)count[2] << 16 | (uint32_t)count[3] << 24;
+}
+
 /* ---- a controller and its storage ---- */
 
 /*
- * Makes a new controller: disabled, no storage attached, idle, BA was high. Whatever the image held is gone.
- * Refuses 1 only.
+ * Makes a new controller: disabled, no storage attached, idle, BA was high, the count of granted cycles 0. Whatever the
+ * image held is gone. Refuses 1 only.
  */
 uint32_t reu_new(uint8_t *image, size_t image_len);
 
 /*
- * Resets the controller: all is as after reu_new(), but enabled, attached and the storage are kept.
- * hard_reset makes no difference. Refuses 1, 2.
+ * Resets the controller: all is as after reu_new(), the count of granted cycles too, but enabled, attached and the
+ * storage are kept. hard_reset makes no difference. Refuses 1, 2.
  */
 uint32_t reu_reset(uint8_t *image, size_t image_len, uint32_t hard_reset);
 
@@ -213,7 +231,7 @@ uint32_t reu_reset(uint8_t *image, size_t image_len, uint32_t hard_reset);
  * Enables or disables the controller. Enabling attaches the storage, if it is not attached yet, and then sets every
  * byte of it to 0; one that is attached keeps its bytes. Disabling drops the transfer, clears what a start clears (see
  * reu_write) and lowers the interrupt level; it keeps the registers, the shadows, the storage and what is known of BA.
- * Refuses 1, 2, 4.
+ * Neither changes the count of granted cycles. Refuses 1, 2, 4.
  */
 uint32_t reu_set_enabled(uint8_t *image, size_t image_len, uint8_t *storage, size_t storage_len, uint32_t enabled);
 
@@ -237,9 +255,10 @@ uint32_t reu_read(uint8_t *image, size_t image_len, uint16_t addr);
  * - COMMAND keeps all bits and drops an armed trigger; then, if bit 7 is set, it starts the transfer (bit 4 set) or
  *   arms the trigger (bit 4 clear). It does not stop a running transfer unless it starts another.
  * - A start clears armed, recall repeat, terminal write, delay, refresh and release. Without an attached storage it
- *   then clears bit 7 of COMMAND, and that is all. With one, STATUS keeps only bit 4, the interrupt level falls, and
- *   the transfer begins with the addresses and the length that the registers hold, as reu_debug_register() gives them
- *   (length 0 means 65,536), and with the type, the Autoload bit and the fix bits of that moment.
+ *   then clears bit 7 of COMMAND, and that is all. With one, STATUS keeps only bit 4, the interrupt level falls, the
+ *   count of granted cycles becomes 0, and the transfer begins with the addresses and the length that the registers
+ *   hold, as reu_debug_register() gives them (length 0 means 65,536), and with the type, the Autoload bit and the fix
+ *   bits of that moment.
  * - The low or high byte of an address or of the length changes the shadow, and both bytes are shown from the shadow.
  *   The bank changes itself and its shadow, and is stored OR $F8.
  * - The interrupt mask is stored OR $1F. An event that STATUS shows raises the interrupt if the mask now lets it.
@@ -255,15 +274,17 @@ uint32_t reu_write(uint8_t *image, size_t image_len, uint16_t addr, uint8_t valu
 uint32_t reu_debug_register(const uint8_t *image, size_t image_len, uint64_t index);
 
 /*
- * The CPU has made the access to $FF00: starts the transfer if it is armed and COMMAND still has bit 7; otherwise
- * nothing happens. Refuses 1, 2.
+ * The CPU has made the access to $FF00: starts the transfer (see reu_write; with storage the count of granted cycles
+ * becomes 0) if it is armed and COMMAND still has bit 7; otherwise nothing happens. Refuses 1, 2.
  */
 uint32_t reu_trigger_ff00(uint8_t *image, size_t image_len);
 
 /* ---- bus cycles ---- */
 
 /*
- * Runs one bus cycle: decides as reu_bus_action() and, on Transfer, does what reu_tick_dma() does.
+ * Runs one bus cycle: decides as reu_bus_action() and, on Transfer, does what reu_tick_dma() does and adds one to the
+ * count of granted cycles, also where the grant comes of a terminal write or a delay and no transfer is running. The
+ * count stays at 4,294,967,295. Neither Hold nor Cpu is counted, and neither of the two calls counts by itself.
  * Answers 0 if the CPU has this cycle, 1 if the controller keeps the CPU from it (Hold or Transfer).
  * A host calls it once in each cycle. Refuses 1, 2, 3, 4.
  */

@@ -87,7 +87,10 @@ fn save_and_open(host: &mut Host, path: &str) -> Result<(), Box<dyn Error>> {
     assert!(opened.machine == host.machine);
     assert_eq!((host.run_to_end(), opened.run_to_end()), (7, 7));
     assert!(opened.machine == host.machine);
-    println!("saved machine: opened in the middle of a swap, it ended as the one that was saved");
+    // The count of granted cycles is part of the image: it goes on where the swap was saved, and the end leaves it.
+    let granted = opened.machine.granted_cycles();
+    assert_eq!(granted, 3 + 7);
+    println!("saved machine: opened in the middle of a swap, it ended as the one that was saved, in {granted} cycles");
     Ok(())
 }
 

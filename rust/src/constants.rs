@@ -142,8 +142,10 @@ pub const IMAGE_REMAINING: usize = IMAGE_EXPANSION_ADDRESS + 3;
 pub const IMAGE_LATCH: usize = IMAGE_REMAINING + 3;
 /// `TRANSFER_FIX_C64` to `TRANSFER_TAIL`; no other bit.
 pub const IMAGE_TRANSFER_FLAGS: usize = IMAGE_LATCH + 1;
-/// Bytes of an image: each field reaches up to the next place, and the last one up to this.
-pub const IMAGE_SIZE: usize = IMAGE_TRANSFER_FLAGS + 1;
+/// The count of granted cycles: any number of four bytes.
+pub const IMAGE_GRANTED_CYCLES: usize = IMAGE_TRANSFER_FLAGS + 1;
+/// Bytes of an image, 38: each field reaches up to the next place, and the last one up to this.
+pub const IMAGE_SIZE: usize = IMAGE_GRANTED_CYCLES + 4;
 
 // Bits of the byte at `IMAGE_FLAGS`.
 

@@ -105,6 +105,31 @@ impl Machine {
         self.image[IMAGE_FLAGS] & FLAG_INTERRUPT != 0
     }
 
+    /// How many bus cycles were granted since the last start that had storage.
+    ///
+    /// - [`Machine::run_reu_cycle`] adds one where its grant is [`Grant::Transfer`], and nothing where it is another;
+    ///   at 4,294,967,295 the count stays.
+    /// - [`Machine::new`] and [`Machine::reset`] set it to 0; [`Machine::write`] and [`Machine::trigger_ff00`] do where
+    ///   they start a transfer while the storage is attached.
+    /// - Nothing else changes it: not [`Machine::bus_action`] or [`Machine::tick_dma`] called directly, not arming, not
+    ///   a start without storage, not the end of a command, not [`Machine::set_enabled`].
+    ///
+    /// ```
+    /// let mut machine = reu::Machine::new();
+    /// machine.set_enabled(true);
+    /// machine.write(0xDF07, 2); // a swap of two bytes
+    /// machine.write(0xDF08, 0);
+    /// machine.write(0xDF01, reu::SWAP | reu::COMMAND_FF00_DISABLE | reu::COMMAND_EXECUTE);
+    /// machine.run_reu_cycle(true, 0, false, false); // BA is low: held
+    /// assert_eq!(machine.granted_cycles(), 0);
+    /// let cycles = (1..100).take_while(|cycle| machine.run_reu_cycle(true, *cycle, false, true));
+    /// assert_eq!(cycles.count(), 4);
+    /// assert_eq!(machine.granted_cycles(), 4); // the end leaves it to be looked at
+    /// ```
+    pub fn granted_cycles(&self) -> u32 {
+        self.image[IMAGE_GRANTED_CYCLES..].iter().rev().fold(0, |count, byte| count << 8 | u32::from(*byte))
+    }
+
     /// Resets the controller; enabled, attached and the storage are kept. `hard_reset` makes no difference.
     pub fn reset(&mut self, hard_reset: bool) {
         accepted(calls::reset(&mut self.image, hard_reset));
