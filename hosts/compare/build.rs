@@ -5,7 +5,7 @@ mod text;
 
 use std::collections::HashMap;
 use std::path::Path;
-use table::{PLANTED, Planted};
+use table::{COUNT, Edit, PLANTED, Planted};
 
 /// The modules that a copy has of its own; elsewhere `crate::` is this program.
 const OWN: [&str; 4] = ["memory", "vic", "reu", "machine"];
@@ -37,24 +37,26 @@ fn sources(root: &Path) -> HashMap<&'static str, String> {
     sources
 }
 
-/// A text with a planted bug's edit; what it replaces must stand there exactly once.
-fn edited(sources: &HashMap<&'static str, String>, name: &str, planted: Option<&Planted>) -> String {
+/// A text with an edit; what it replaces must stand there exactly once.
+fn edited(text: &str, what: &str, edit: &Edit) -> String {
+    let times = text.matches(edit.old).count();
+    assert!(times == 1, "{what}: its text stands {times} times in {}", edit.file);
+    text.replace(edit.old, edit.new)
+}
+
+/// A text of a copy: with the count of granted cycles, and a planted bug if it stands there.
+fn body(sources: &HashMap<&'static str, String>, name: &str, planted: Option<&Planted>) -> String {
     let text = sources[name].replace("//!", "//");
-    match planted.filter(|planted| planted.file == name) {
-        Some(Planted { name, file, old, new, .. }) => {
-            let times = text.matches(old).count();
-            assert!(times == 1, "planted bug '{name}': its text stands {times} times in {file}");
-            text.replace(old, new)
-        }
-        None => text,
-    }
+    let count = COUNT.iter().map(|edit| ("the count", edit));
+    let edits = count.chain(planted.map(|planted| (planted.name, &planted.edit)));
+    edits.filter(|(_, edit)| edit.file == name).fold(text, |text, (what, edit)| edited(&text, what, edit))
 }
 
 /// One copy as a module: the original's modules, and the fifteen calls over them. A bug in the calls alone is over
 /// copy 0's modules.
 fn copy(sources: &HashMap<&'static str, String>, number: usize, planted: Option<&Planted>) -> String {
-    let body = |name: &str| edited(sources, name, planted);
-    let calls_alone = planted.is_some_and(|planted| planted.file == "accepted");
+    let body = |name: &str| body(sources, name, planted);
+    let calls_alone = planted.is_some_and(|planted| planted.edit.file == "accepted");
     let modules = if calls_alone { String::new() } else { text::modules(&body, &body("run_reu_cycle")) };
     let base = if calls_alone { 0 } else { number };
     let mut text = format!(
@@ -68,12 +70,13 @@ fn copy(sources: &HashMap<&'static str, String>, number: usize, planted: Option<
     format!("#[allow(warnings, clippy::all)]\nmod copy{number} {{\n{text}}}\n")
 }
 
-/// Copy 0 is as the original is; copy N has the Nth planted bug.
+/// Copy 0 is the original with the count; copy N has the Nth planted bug.
 fn copies(sources: &HashMap<&'static str, String>) -> String {
     let mut text = copy(sources, 0, None);
     let mut calls = String::from("copy0::call,");
     for (at, planted) in PLANTED.iter().enumerate() {
-        assert!(sources.contains_key(planted.file), "planted bug '{}': no file {}", planted.name, planted.file);
+        let (name, file) = (planted.name, planted.edit.file);
+        assert!(sources.contains_key(file), "planted bug '{name}': no file {file}");
         text.push_str(&copy(sources, at + 1, Some(planted)));
         calls.push_str(&format!(" copy{}::call,", at + 1));
     }

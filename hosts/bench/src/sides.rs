@@ -1,7 +1,7 @@
 //! The two sides that are measured, behind one face.
 
 use original::machine::Machine;
-use reu::{BUS_SIZE, IMAGE_SIZE, STORAGE_SIZE, raw};
+use reu::{BUS_SIZE, IMAGE_GRANTED_CYCLES, IMAGE_SIZE, STORAGE_SIZE, raw};
 
 /// The calls that are measured, as the library exports them: flags are 0 or 1, answers document 01's values.
 pub trait Side {
@@ -16,7 +16,8 @@ pub trait Side {
     fn cpu_ready_after_dma(&mut self, ba_high: u32) -> u32;
     fn bus_action(&mut self, ba_high: u32, ba_high_phi1: u32, cycle: u64) -> u32;
     fn run_reu_cycle(&mut self, ba_high: u32, cycle: u64, ba_low: u32, ba_high_phi1: u32) -> u32;
-    /// Image, bus and storage, to see that both sides have done the same.
+    /// Image, bus and storage, to see that both sides have done the same. The image is without the count of granted
+    /// cycles, which the original has not.
     fn machine(&self) -> [Vec<u8>; 3];
 }
 
@@ -103,7 +104,7 @@ impl Side for Library {
     }
 
     fn machine(&self) -> [Vec<u8>; 3] {
-        [self.image.to_vec(), self.bus.to_vec(), self.storage.to_vec()]
+        [self.image[..IMAGE_GRANTED_CYCLES].to_vec(), self.bus.to_vec(), self.storage.to_vec()]
     }
 }
 
@@ -153,6 +154,6 @@ impl Side for Machine {
     }
 
     fn machine(&self) -> [Vec<u8>; 3] {
-        [self.image().to_vec(), self.bus().to_vec(), self.storage().to_vec()]
+        [self.image()[..IMAGE_GRANTED_CYCLES].to_vec(), self.bus().to_vec(), self.storage().to_vec()]
     }
 }

@@ -1,24 +1,60 @@
-// The planted bugs: each is one edit of one text that a copy of the original is made of.
+// The planted bugs: each is one edit of one text that a copy of the original is made of. Before it, each copy is given the
+// count of granted cycles, which the original has not, by edits too.
 
-/// An edit: `old` stands exactly once in `file` and is replaced by `new`.
-#[allow(dead_code)] // The build script reads the edit, the program the rest.
-pub struct Planted {
-    pub name: &'static str,
-    /// The recorded session that must break, if there is one.
-    pub session: Option<usize>,
+/// `old` stands exactly once in `file` and is replaced by `new`.
+#[allow(dead_code)] // The build script reads it.
+pub struct Edit {
     pub file: &'static str,
     pub old: &'static str,
     pub new: &'static str,
 }
 
+#[allow(dead_code)] // The build script reads the edit, the program the rest.
+pub struct Planted {
+    pub name: &'static str,
+    /// The recorded session that must break, if there is one.
+    pub session: Option<usize>,
+    pub edit: Edit,
+}
+
 const fn edit(name: &'static str, file: &'static str, old: &'static str, new: &'static str) -> Planted {
-    Planted { name, session: None, file, old, new }
+    Planted { name, session: None, edit: Edit { file, old, new } }
 }
 
 /// The same, with the recorded session that it must break.
 const fn breaks(session: usize, planted: Planted) -> Planted {
     Planted { session: Some(session), ..planted }
 }
+
+/// The count of granted cycles, where a programmer would put it into the original. That it is right is found by
+/// comparing it with `src/granted.rs`, which keeps the count from outside.
+#[allow(dead_code)] // The build script reads it.
+#[rustfmt::skip]
+pub const COUNT: &[Edit] = &[
+    Edit { file: "reu",
+        old: "\tswap_release_pending: bool,\n}",
+        new: "\tswap_release_pending: bool,\n\tpub(crate) granted_cycles: u32,\n}" },
+    Edit { file: "reu",
+        old: "swap_release_pending: false,\n\t\t};",
+        new: "swap_release_pending: false,\n\t\t\tgranted_cycles: 0,\n\t\t};" },
+    Edit { file: "reu",
+        old: "self.irq_pending = false;\n\t\tself.reset_registers();",
+        new: "self.irq_pending = false;\n\t\tself.granted_cycles = 0;\n\t\tself.reset_registers();" },
+    Edit { file: "reu",
+        old: "let command = self.regs[COMMAND];",
+        new: "self.granted_cycles = 0;\n\t\tlet command = self.regs[COMMAND];" },
+    Edit { file: "run_reu_cycle",
+        old: "self.reu = reu;",
+        new: "self.reu = reu;\n\t\t\t\tself.reu.granted_cycles = self.reu.granted_cycles.saturating_add(1);" },
+    Edit { file: "host/fields",
+        old: "image[IMAGE_TRANSFER] = u8::from(self.dma.is_some());",
+        new: "image[IMAGE_TRANSFER] = u8::from(self.dma.is_some());
+        image[IMAGE_GRANTED_CYCLES..].copy_from_slice(&self.granted_cycles.to_le_bytes());" },
+    Edit { file: "host/fields",
+        old: "swap_read_delay: image[IMAGE_DELAY],",
+        new: "swap_read_delay: image[IMAGE_DELAY],
+            granted_cycles: get(&image[IMAGE_GRANTED_CYCLES..]) as u32," },
+];
 
 #[rustfmt::skip]
 pub const PLANTED: &[Planted] = &[
@@ -250,6 +286,80 @@ pub const PLANTED: &[Planted] = &[
         "reu.tick_dma(self, cycle, vic);",
         "reu.tick_dma(self, cycle, vic); reu.tick_dma(self, cycle, vic);"),
 
+    // The count of granted cycles: what adds to it.
+    edit("the count wraps at its top", "run_reu_cycle", "saturating_add(1)", "wrapping_add(1)"),
+    edit("the count is held one below its top", "run_reu_cycle",
+        "saturating_add(1)",
+        "saturating_add(1).min(u32::MAX - 1)"),
+    edit("a hold is counted", "run_reu_cycle",
+        "ReuBusAction::Hold => true,",
+        "ReuBusAction::Hold => { self.reu.granted_cycles = self.reu.granted_cycles.saturating_add(1); true }"),
+    edit("a cycle of the processor is counted", "run_reu_cycle",
+        "ReuBusAction::Cpu => false,",
+        "ReuBusAction::Cpu => { self.reu.granted_cycles = self.reu.granted_cycles.saturating_add(1); false }"),
+    edit("a granted cycle is counted only while a transfer runs", "run_reu_cycle",
+        "reu.tick_dma(self, cycle, vic);\n\t\t\t\tself.reu = reu;\n",
+        "let runs = reu.dma_active();\nreu.tick_dma(self, cycle, vic);\nself.reu = reu;\nif runs == false { return true; }\n"),
+    edit("the cycle that ends a command is not counted", "run_reu_cycle",
+        "self.reu = reu;\n",
+        "self.reu = reu;\nif self.reu.dma_active() == false { return true; }\n"),
+    edit("a direct tick is counted", "host/machine",
+        "let going_on = reu.tick_dma(&mut self.memory, cycle, &mut vic);",
+        "let going_on = reu.tick_dma(&mut self.memory, cycle, &mut vic);
+         reu.granted_cycles = reu.granted_cycles.saturating_add(1);"),
+    edit("a direct bus_action is counted", "host/machine",
+        "ReuBusAction::Transfer => 2,",
+        "ReuBusAction::Transfer => { self.memory.reu.granted_cycles = self.memory.reu.granted_cycles.saturating_add(1); 2 }"),
+
+    // What sets it to 0.
+    edit("new leaves the count", "standin",
+        "*image = machine.image();",
+        "let count = image[::reu::IMAGE_GRANTED_CYCLES..].to_vec();
+         *image = machine.image();
+         if call == Call::New { image[::reu::IMAGE_GRANTED_CYCLES..].copy_from_slice(&count); }"),
+    edit("reset leaves the count", "reu",
+        "self.granted_cycles = 0;\n\t\tself.reset_registers();",
+        "self.reset_registers();"),
+    edit("a start by COMMAND leaves the count", "registers",
+        "self.start_dma();",
+        "let count = self.granted_cycles; self.start_dma(); self.granted_cycles = count;"),
+    edit("a start by FF00 leaves the count", "reu",
+        "self.start_dma();",
+        "let count = self.granted_cycles; self.start_dma(); self.granted_cycles = count;"),
+    edit("a start that cuts in leaves the count", "reu",
+        "self.granted_cycles = 0;\n\t\tlet command",
+        "if self.dma.is_none() { self.granted_cycles = 0; }\n\t\tlet command"),
+    edit("a start without storage sets the count to 0", "reu",
+        "self.regs[COMMAND] &= !COMMAND_EXECUTE;",
+        "self.regs[COMMAND] &= !COMMAND_EXECUTE; self.granted_cycles = 0;"),
+    edit("arming sets the count to 0", "registers",
+        "self.waiting_ff00 = true;",
+        "self.waiting_ff00 = true; self.granted_cycles = 0;"),
+    edit("every write of COMMAND sets the count to 0", "registers",
+        "self.waiting_ff00 = false;",
+        "self.waiting_ff00 = false; self.granted_cycles = 0;"),
+    edit("the end of a command sets the count to 0", "reu",
+        "self.dma = None;\n\t\tif completed {",
+        "self.dma = None; self.granted_cycles = 0;\n\t\tif completed {"),
+    edit("disabling sets the count to 0", "reu",
+        "if !enabled {\n\t\t\tself.dma = None;",
+        "if !enabled {\n\t\t\tself.granted_cycles = 0; self.dma = None;"),
+    edit("enabling sets the count to 0", "reu",
+        "self.enabled = enabled;",
+        "self.enabled = enabled; if enabled { self.granted_cycles = 0; }"),
+    edit("attaching sets the count to 0", "reu",
+        "self.storage = Some(ReuMemory::new());",
+        "self.storage = Some(ReuMemory::new()); self.granted_cycles = 0;"),
+
+    // Its bytes.
+    edit("the count has its high byte first", "host/fields", "to_le_bytes());", "to_be_bytes());"),
+    edit("the count is packed only with a transfer", "host/fields",
+        "image[IMAGE_GRANTED_CYCLES..].copy_from_slice(&self.granted_cycles.to_le_bytes());",
+        "if self.dma.is_some() { image[IMAGE_GRANTED_CYCLES..].copy_from_slice(&self.granted_cycles.to_le_bytes()); }"),
+    edit("the count is opened as 24 bits", "host/fields",
+        "get(&image[IMAGE_GRANTED_CYCLES..]) as u32,",
+        "get(&image[IMAGE_GRANTED_CYCLES..]) as u32 & 0xFF_FFFF,"),
+
     // The arguments and the answers of the exported calls.
     edit("only the low byte of a flag counts", "host/machine",
         "ba_high_phi1: ba_high_phi1 != 0 };",
@@ -309,7 +419,8 @@ pub const PLANTED: &[Planted] = &[
         "    attached\n        && image[IMAGE_TRANSFER] == 1",
         "    image[IMAGE_TRANSFER] == 1"),
     edit("fields left over without a transfer are taken", "accepted",
-        "return image[IMAGE_TYPE..].iter().all(|byte| *byte == 0);",
-        "return image[IMAGE_PHASE..].iter().all(|byte| *byte == 0);"),
+        "return image[IMAGE_TYPE..IMAGE_GRANTED_CYCLES].iter().all(|byte| *byte == 0);",
+        "return image[IMAGE_PHASE..IMAGE_GRANTED_CYCLES].iter().all(|byte| *byte == 0);"),
     edit("transfer present may be any number", "accepted", "&& image[IMAGE_TRANSFER] == 1", ""),
+    edit("a count without a transfer is refused", "accepted", "image[IMAGE_TYPE..IMAGE_GRANTED_CYCLES]", "image[IMAGE_TYPE..]"),
 ];

@@ -8,7 +8,7 @@ use ::reu::*;
 /// The transfer of an image that is attached or not.
 fn transfer_accepted(image: &[u8], attached: bool) -> bool {
     if image[IMAGE_TRANSFER] == 0 {
-        return image[IMAGE_TYPE..].iter().all(|byte| *byte == 0);
+        return image[IMAGE_TYPE..IMAGE_GRANTED_CYCLES].iter().all(|byte| *byte == 0);
     }
     let (kind, phase, flags) = (image[IMAGE_TYPE], image[IMAGE_PHASE], image[IMAGE_TRANSFER_FLAGS]);
     let remaining = number(&image[IMAGE_REMAINING..IMAGE_LATCH]);

@@ -2,7 +2,9 @@
 
 use crate::calls::{Call, Step};
 use crate::generate::Generator;
+use crate::granted::{AtTop, count_of};
 use crate::sides::{IMAGE, Image, Machine, places};
+use reu::IMAGE_GRANTED_CYCLES;
 use std::panic::{AssertUnwindSafe, catch_unwind};
 
 /// The steps of a from-new list, the steps that follow each image of a from-image list, and those of a long list.
@@ -11,6 +13,8 @@ const AFTER_IMAGE: usize = 12;
 const LONG_LIST: usize = 140_000;
 /// One list in so many is long.
 const LONG_EVERY: u64 = 400;
+/// A run of so many calls must have been at the top of the count of granted cycles; the gate's runs are as long.
+pub const FULL_RUN: u64 = 5_000_000;
 /// Whole memories are compared at the end of a list and after so many steps.
 const WHOLE_EVERY: usize = 16_384;
 
@@ -39,7 +43,13 @@ impl Pair<'_> {
         }
         let (image, right_image) = (self.tried.image(), self.right.image());
         if let Some(at) = first_difference(&image, &right_image) {
-            return Err(differs("image byte", at, image[at].into(), right_image[at].into()));
+            return Err(match at < IMAGE_GRANTED_CYCLES {
+                true => differs("image byte", at, image[at].into(), right_image[at].into()),
+                false => {
+                    let [count, right] = [image, right_image].map(|image| count_of(&image));
+                    format!("the count of granted cycles is {count}, by the calls and their grants {right}")
+                }
+            });
         }
         if self.tried.interrupt() != self.right.interrupt() {
             return Err("the interrupt level differs".into());
@@ -111,12 +121,13 @@ pub fn list_seed(seed: u64, list: u64) -> u64 {
 pub struct Run {
     pub calls: u64,
     pub lists: u64,
+    pub at_top: AtTop,
     seed: u64,
 }
 
 impl Run {
     pub fn new(seed: u64) -> Self {
-        Self { calls: 0, lists: 0, seed }
+        Self { calls: 0, lists: 0, at_top: AtTop::default(), seed }
     }
 
     /// Compares at least `calls` further calls.
@@ -132,13 +143,22 @@ impl Run {
         Ok(())
     }
 
+    /// An error if the run is a full one and its cycles have not brought the count to its top and tried to go past it.
+    pub fn has_met_the_top(&self) -> Result<(), String> {
+        match self.at_top {
+            AtTop { reached: 1.., held: 1.. } => Ok(()),
+            _ if self.calls < FULL_RUN => Ok(()),
+            _ => Err("compare: so long a run must bring the count of granted cycles to its top and past it".into()),
+        }
+    }
+
     /// One list: from new, with full lengths, or from any accepted images, by its number.
     fn list(&mut self, pair: &mut Pair, seed: u64, steps: &mut Vec<Step>) -> Result<(), String> {
         let long = self.lists % LONG_EVERY == LONG_EVERY / 2;
         let images = !long && self.lists % 3 == 2;
         let kind = (self.lists / LONG_EVERY % 4) as u8;
         let mut generator = if long { Generator::long(seed, kind) } else { Generator::new(seed) };
-        let mut steps = Kept { steps, calls: &mut self.calls };
+        let mut steps = Kept { steps, calls: &mut self.calls, at_top: &mut self.at_top };
         for start in [Step::Image([0; IMAGE]), Step::Memory(generator.seed()), Step::Call(Call::New)] {
             steps.step(pair, start)?;
         }
@@ -157,16 +177,20 @@ impl Run {
     }
 }
 
-/// Keeps each step before it is done, and counts the calls among them.
+/// Keeps each step before it is done, and counts the calls among them and those at the top of the count.
 struct Kept<'a> {
     steps: &'a mut Vec<Step>,
     calls: &'a mut u64,
+    at_top: &'a mut AtTop,
 }
 
 impl Kept<'_> {
     fn step(&mut self, pair: &mut Pair, step: Step) -> Result<(), String> {
         self.steps.push(step);
-        *self.calls += u64::from(matches!(step, Step::Call(_)));
+        if let Step::Call(call) = step {
+            *self.calls += 1;
+            self.at_top.look(pair.right, call);
+        }
         pair.step(step)
     }
 }

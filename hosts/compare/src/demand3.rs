@@ -3,9 +3,9 @@
 
 use crate::calls::Call;
 use crate::generate::Generator;
+use crate::granted::is_granted;
 use crate::refusals::Refuser;
 use crate::rng::{Rng, noise};
-use crate::sessions::grant;
 use crate::sides::{BUS, Image, Machine, STORAGE, register};
 use reu::*;
 
@@ -34,7 +34,7 @@ fn start_image(generator: &mut Generator, length: [u8; 2]) -> Image {
     let mut image = generator.image();
     image[register(ADDRESS_CONTROL)] &= 0x3F;
     image[IMAGE_FLAGS] = (image[IMAGE_FLAGS] | FLAG_ATTACHED) & !FLAG_ARMED;
-    image[IMAGE_TRANSFER..].fill(0);
+    image[IMAGE_TRANSFER..IMAGE_GRANTED_CYCLES].fill(0);
     image[register(TRANSFER_LENGTH_LOW)..=register(TRANSFER_LENGTH_HIGH)].copy_from_slice(&length);
     image
 }
@@ -104,9 +104,7 @@ impl Walk<'_> {
                 self.refused()?;
             }
             let cycle = self.cycle();
-            if let Call::RunReuCycle { ba_high, cycle, ba_high_phi1, .. } = cycle {
-                granted += usize::from(grant(self.machine, ba_high, ba_high_phi1, cycle) == 2);
-            }
+            granted += usize::from(is_granted(self.machine, cycle));
             check(self.machine.call(cycle) == 1, "a cycle of the swap was the processor's")?;
         }
         check(!self.executes(), "the swap did not end at 2n granted cycles")

@@ -2,8 +2,9 @@
 
 use crate::accepted::accepted;
 use crate::calls::{Call, NAMES, Step};
+use crate::granted::TOP;
 use crate::rng::Rng;
-use crate::sides::{IMAGE, Image, places, set_number};
+use crate::sides::{IMAGE, Image, number, places, set_number};
 use reu::*;
 
 /// How the BA inputs of a list move.
@@ -165,6 +166,17 @@ impl Generator {
         }
     }
 
+    /// Plans the host's own ticks to the end of a swap that a fall of BA has left a delay or a terminal write, and cycles
+    /// behind them: what is left over is then granted while no transfer runs.
+    fn plan_ticks(&mut self, remaining: usize) {
+        let cycles = [(); 3].map(|()| Step::Call(self.cycle_call()));
+        self.plan.extend(cycles);
+        for _ in 0..=2 * remaining {
+            let tick = Call::TickDma { cycle: self.next_cycle(), ba_low: self.any_flag() };
+            self.plan.push(Step::Call(tick));
+        }
+    }
+
     /// A write to the byte under the running transfer, so that verify meets equal and different bytes.
     fn touch_bus(&mut self, image: &Image) -> Step {
         let ahead = self.rng.below(3) as u16;
@@ -239,6 +251,12 @@ impl Generator {
         if armed && self.rng.one_in(4) {
             return Step::Call(Call::TriggerFf00);
         }
+        let left_over = image[IMAGE_DELAY] != 0 || image[IMAGE_FLAGS] & FLAG_TERMINAL_WRITE != 0;
+        let remaining = number(&image[IMAGE_REMAINING..IMAGE_LATCH]);
+        if running && left_over && remaining <= 8 && self.rng.one_in(8) {
+            self.plan_ticks(remaining);
+            return self.plan.pop().expect("ticks were planned");
+        }
         // Another command cuts in, and a short list does not wait for the end of a long transfer.
         let cuts_in = running && self.rng.one_in(10 * self.quiet.max(20));
         if !cuts_in && (running || self.rng.one_in(3)) {
@@ -264,6 +282,10 @@ impl Generator {
         if image[IMAGE_TRANSFER] == 1 {
             self.image_transfer(&mut image);
         }
+        // Counts where one more carries into each byte, and at or near the top, where some cycles bring it there.
+        let (any, near) = (self.rng.word() as u32, self.rng.below(4) as u32);
+        let count = self.rng.pick(&[any, any, near, 0xFF, 0xFFFF, 0xFF_FFFF, TOP - near, TOP - near]);
+        set_number(&mut image[IMAGE_GRANTED_CYCLES..], count);
         assert!(accepted(&image), "the generator makes accepted images: {image:?}");
         image
     }

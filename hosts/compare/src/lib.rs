@@ -7,6 +7,7 @@ pub mod compare;
 pub mod copies;
 pub mod demand3;
 pub mod generate;
+pub mod granted;
 #[cfg(original)]
 pub mod planted;
 pub mod port;

@@ -114,6 +114,7 @@ mod with_original {
     use super::*;
     use compare::calls::{list_from, list_text};
     use compare::compare::{Disagreement, Pair, Run};
+    use compare::granted::AtTop;
     use compare::reference::Original;
     use compare::{SEED, planted, shrink};
     use std::fs;
@@ -135,10 +136,11 @@ mod with_original {
         let mut pair = Pair { tried: &mut library, right: &mut original };
         let mut run = Run::new(seed);
         let done = run.compare(&mut pair, calls);
-        let (calls, lists) = (run.calls, run.lists);
+        let (calls, lists, AtTop { reached, held }) = (run.calls, run.lists, run.at_top);
         let Err(found) = done else {
             println!("compare: {calls} calls agree, in {lists} lists");
-            return Ok(());
+            println!("compare: {reached} granted cycles brought the count to its top, {held} came when it was there");
+            return run.has_met_the_top();
         };
         let disagree = format!("compare: the library and the original disagree after {calls} calls: {}", found.what);
         Err(format!("{disagree}\n{}", short(&mut pair, *found, bug)))

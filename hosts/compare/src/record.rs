@@ -1,4 +1,5 @@
-//! The recorded list: what the original answered, and what it changed, call by call.
+//! The recorded list: what the original answered, and what it changed, call by call. The count of granted cycles, which
+//! the original has not, is recorded with it as `granted.rs` has it.
 //!
 //! A line is a step as `calls.rs` writes it; a call's line goes on with `= ANSWER` and what has changed: `N:BYTE` of
 //! the image, `bADDR:BYTE` of the bus, `sOFFSET:BYTE` of the storage. `sum BUS STORAGE` gives both memories' sums.
@@ -7,6 +8,7 @@ use crate::calls::{Call, Step};
 use crate::compare::list_seed;
 use crate::generate::Generator;
 use crate::sides::{IMAGE, Machine, places};
+use reu::IMAGE_GRANTED_CYCLES;
 
 /// The lists of a record, one in four from any accepted images, and the steps of each.
 const LISTS: u64 = 80;
@@ -90,6 +92,8 @@ pub fn record(machine: &mut dyn Machine, seed: u64) -> String {
     let how = format!("cargo run --release -p compare -- --seed {seed} --record FILE");
     format!(
         "# What the original answers to {calls} calls: made from its Rust, compiled unchanged, by\n\
-         # `{how}`. src/record.rs says how a line is read.\n{text}"
+         # `{how}`. src/record.rs says how a line is read.\n\
+         # The count of granted cycles, image bytes {IMAGE_GRANTED_CYCLES} to {}, is not its own: src/granted.rs keeps it.\n{text}",
+        IMAGE - 1
     )
 }

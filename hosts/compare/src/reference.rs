@@ -1,41 +1,51 @@
-//! The original's side.
+//! The original's side, with the count that it has not beside it.
 
 use crate::calls::{Call, answer_of};
-use crate::sides::{Image, Machine};
+use crate::granted::{count_after, count_of, is_granted};
+use crate::sides::{Image, Machine, set_number};
+use reu::IMAGE_GRANTED_CYCLES;
 
 #[derive(Default)]
-pub struct Original(original::Machine);
+pub struct Original {
+    machine: original::Machine,
+    count: u32,
+}
 
 impl Machine for Original {
     fn call(&mut self, call: Call) -> u32 {
-        answer_of!(self.0, call)
+        let granted = is_granted(self, call);
+        self.count = count_after(call, &self.image(), granted);
+        answer_of!(self.machine, call)
     }
 
     fn image(&self) -> Image {
-        self.0.image()
+        let mut image = self.machine.image();
+        set_number(&mut image[IMAGE_GRANTED_CYCLES..], self.count);
+        image
     }
 
     fn load(&mut self, image: &Image) {
-        self.0.load(image);
+        self.machine.load(image);
+        self.count = count_of(image);
     }
 
     fn interrupt(&self) -> bool {
-        self.0.interrupt()
+        self.machine.interrupt()
     }
 
     fn bus(&self) -> &[u8] {
-        self.0.bus()
+        self.machine.bus()
     }
 
     fn bus_mut(&mut self) -> &mut [u8] {
-        self.0.bus_mut()
+        self.machine.bus_mut()
     }
 
     fn storage(&self) -> &[u8] {
-        self.0.storage()
+        self.machine.storage()
     }
 
     fn storage_mut(&mut self) -> &mut [u8] {
-        self.0.storage_mut()
+        self.machine.storage_mut()
     }
 }

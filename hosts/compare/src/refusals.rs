@@ -227,7 +227,8 @@ impl<P: Port> Refusals<P> {
         if made[0] == made[1] { Ok(()) } else { Err(format!("new on {image:02x?} leaves {:02x?}", made[1])) }
     }
 
-    /// Every value of every byte that has a range, from several accepted images; then several bytes at once.
+    /// Every value of every byte behind the shadows, whether it has a range or is the count's, from several accepted
+    /// images; then several bytes at once.
     fn fields(&mut self) -> Result<(), String> {
         for _ in 0..BASES {
             let base = self.generator.image();

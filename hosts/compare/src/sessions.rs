@@ -1,6 +1,7 @@
 //! Document 01's sixteen recorded sessions, on any machine.
 
 use crate::calls::{Call, Step};
+use crate::granted::grant;
 use crate::sides::{Machine, STORAGE};
 
 /// A machine as the sessions use it: new, enabled, BA high.
@@ -241,17 +242,6 @@ fn r16(machine: &mut dyn Machine) -> bool {
         desk.cycle(ba_high, ba_high_phi1);
     }
     grants == [2, 1, 2, 2, 2] && desk.machine.bus()[0x1000] == 0x11 && desk.machine.storage()[0] == 0x11
-}
-
-/// What `bus_action` would answer now; the machine is left as it was.
-pub fn grant(machine: &mut dyn Machine, ba_high: u32, ba_high_phi1: u32, cycle: u64) -> u32 {
-    let image = machine.image();
-    let offset = crate::sides::places(&image).1;
-    let byte = machine.storage()[offset];
-    let answer = machine.call(Call::BusAction { ba_high, ba_high_phi1, cycle });
-    machine.load(&image);
-    machine.storage_mut()[offset] = byte;
-    answer
 }
 
 type Session = fn(&mut dyn Machine) -> bool;

@@ -1,8 +1,9 @@
 //! What can be tested of the run itself, and the recorded list, which needs no original.
 
 use compare::calls::{Call, Step, list_from, list_text};
-use compare::compare::{Pair, Run};
+use compare::compare::{FULL_RUN, Pair, Run};
 use compare::generate::Generator;
+use compare::granted::AtTop;
 use compare::port::Library;
 use compare::record::replay;
 use compare::refusals::{Refusals, Refuser};
@@ -50,6 +51,17 @@ fn a_seed_gives_the_same_calls_each_time_and_another_seed_others() {
             assert!(differ, "part {part} makes the same calls from {SEED} and {other}");
         }
     }
+}
+
+#[test]
+fn a_full_run_must_have_met_the_top_of_the_count() {
+    let met = |calls, reached, held| {
+        let mut run = Run::new(SEED);
+        (run.calls, run.at_top) = (calls, AtTop { reached, held });
+        run.has_met_the_top().is_ok()
+    };
+    assert!(met(FULL_RUN, 1, 1) && met(FULL_RUN - 1, 0, 0));
+    assert!(!met(FULL_RUN, 0, 0) && !met(FULL_RUN, 1, 0) && !met(FULL_RUN, 0, 1));
 }
 
 /// The first line that the program prints, which is then ended.

@@ -1,0 +1,80 @@
+//! The count of granted cycles, by request L1's words: the original has none, so the comparison keeps its own.
+//!
+//! It comes from the call, from what the original's controller was before it, and from what the original's `bus_action`
+//! grants; nothing here looks at the library's count. Calls are accepted ones: a refused one changes nothing.
+
+use crate::calls::Call;
+use crate::sides::{Image, Machine, number, places, register};
+use reu::{IMAGE_FLAGS, IMAGE_GRANTED_CYCLES};
+
+/// Where the count is held.
+pub const TOP: u32 = 4_294_967_295;
+
+/// What `bus_action` answers for Transfer.
+const TRANSFER: u32 = 2;
+
+/// The count that an image has.
+pub fn count_of(image: &Image) -> u32 {
+    number(&image[IMAGE_GRANTED_CYCLES..]) as u32
+}
+
+/// Whether a call starts a command: a write of COMMAND with bits 7 and 4, or FF00 on an armed one that has bit 7.
+fn starts(call: Call, before: &Image) -> bool {
+    let armed = before[IMAGE_FLAGS] & 0x08 != 0;
+    match call {
+        Call::Write { addr, value } => addr & 0x1F == 1 && value & 0x80 != 0 && value & 0x10 != 0,
+        Call::TriggerFf00 => armed && before[register(1)] & 0x80 != 0,
+        _ => false,
+    }
+}
+
+/// The count after a call: 0 at new, at reset and at every start that has storage; one more, up to the top, for a cycle
+/// that is granted; as it was for everything else.
+pub fn count_after(call: Call, before: &Image, granted: bool) -> u32 {
+    let (count, attached) = (count_of(before), before[IMAGE_FLAGS] & 0x04 != 0);
+    match call {
+        Call::New | Call::Reset { .. } => 0,
+        Call::Write { .. } | Call::TriggerFf00 if attached && starts(call, before) => 0,
+        Call::RunReuCycle { .. } if granted && count < TOP => count + 1,
+        _ => count,
+    }
+}
+
+/// Whether a call is a cycle whose grant is Transfer, by this machine's `bus_action`; the machine is left as it was.
+pub fn is_granted(machine: &mut dyn Machine, call: Call) -> bool {
+    match call {
+        Call::RunReuCycle { ba_high, cycle, ba_high_phi1, .. } => {
+            grant(machine, ba_high, ba_high_phi1, cycle) == TRANSFER
+        }
+        _ => false,
+    }
+}
+
+/// What `bus_action` would answer now; the machine is left as it was.
+pub fn grant(machine: &mut dyn Machine, ba_high: u32, ba_high_phi1: u32, cycle: u64) -> u32 {
+    let image = machine.image();
+    let offset = places(&image).1;
+    let byte = machine.storage()[offset];
+    let answer = machine.call(Call::BusAction { ba_high, ba_high_phi1, cycle });
+    machine.load(&image);
+    machine.storage_mut()[offset] = byte;
+    answer
+}
+
+/// How often a run was at the top: cycles that brought the count there, and cycles that were granted when it was there.
+#[derive(Clone, Copy, Default)]
+pub struct AtTop {
+    pub reached: u64,
+    pub held: u64,
+}
+
+impl AtTop {
+    /// Looks at a call before it is made.
+    pub fn look(&mut self, machine: &mut dyn Machine, call: Call) {
+        let below = TOP - count_of(&machine.image());
+        if below <= 1 && is_granted(machine, call) {
+            self.reached += u64::from(below == 1);
+            self.held += u64::from(below == 0);
+        }
+    }
+}
