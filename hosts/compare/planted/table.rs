@@ -1,5 +1,5 @@
-// The planted bugs: each is one edit of one text that a copy of the original is made of. Before it, each copy is given the
-// count of granted cycles, which the original has not, by edits too.
+// The planted bugs: each is one edit of one text that a copy of the original is made of. Before that, each copy is given
+// the count of granted cycles, which the original has not, by edits too.
 
 /// `old` stands exactly once in `file` and is replaced by `new`.
 #[allow(dead_code)] // The build script reads it.

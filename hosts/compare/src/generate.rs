@@ -166,8 +166,8 @@ impl Generator {
         }
     }
 
-    /// Plans the host's own ticks to the end of a swap that a fall of BA has left a delay or a terminal write, and cycles
-    /// behind them: what is left over is then granted while no transfer runs.
+    /// Plans the host's own ticks to the end of a swap that has a delay or a terminal write waiting, and cycles behind
+    /// them: what was waiting is then granted while no transfer runs.
     fn plan_ticks(&mut self, remaining: usize) {
         let cycles = [(); 3].map(|()| Step::Call(self.cycle_call()));
         self.plan.extend(cycles);
@@ -251,9 +251,9 @@ impl Generator {
         if armed && self.rng.one_in(4) {
             return Step::Call(Call::TriggerFf00);
         }
-        let left_over = image[IMAGE_DELAY] != 0 || image[IMAGE_FLAGS] & FLAG_TERMINAL_WRITE != 0;
+        let waiting = image[IMAGE_DELAY] != 0 || image[IMAGE_FLAGS] & FLAG_TERMINAL_WRITE != 0;
         let remaining = number(&image[IMAGE_REMAINING..IMAGE_LATCH]);
-        if running && left_over && remaining <= 8 && self.rng.one_in(8) {
+        if running && waiting && remaining <= 8 && self.rng.one_in(8) {
             self.plan_ticks(remaining);
             return self.plan.pop().expect("ticks were planned");
         }

@@ -4,7 +4,7 @@
 //! grants; nothing here looks at the library's count. Calls are accepted ones: a refused one changes nothing.
 
 use crate::calls::Call;
-use crate::sides::{Image, Machine, number, places, register};
+use crate::sides::{Image, Machine, number, register};
 use reu::{IMAGE_FLAGS, IMAGE_GRANTED_CYCLES};
 
 /// Where the count is held.
@@ -34,7 +34,7 @@ pub fn count_after(call: Call, before: &Image, granted: bool) -> u32 {
     let (count, attached) = (count_of(before), before[IMAGE_FLAGS] & 0x04 != 0);
     match call {
         Call::New | Call::Reset { .. } => 0,
-        Call::Write { .. } | Call::TriggerFf00 if attached && starts(call, before) => 0,
+        _ if attached && starts(call, before) => 0,
         Call::RunReuCycle { .. } if granted && count < TOP => count + 1,
         _ => count,
     }
@@ -44,21 +44,10 @@ pub fn count_after(call: Call, before: &Image, granted: bool) -> u32 {
 pub fn is_granted(machine: &mut dyn Machine, call: Call) -> bool {
     match call {
         Call::RunReuCycle { ba_high, cycle, ba_high_phi1, .. } => {
-            grant(machine, ba_high, ba_high_phi1, cycle) == TRANSFER
+            machine.grant(ba_high, ba_high_phi1, cycle) == TRANSFER
         }
         _ => false,
     }
-}
-
-/// What `bus_action` would answer now; the machine is left as it was.
-pub fn grant(machine: &mut dyn Machine, ba_high: u32, ba_high_phi1: u32, cycle: u64) -> u32 {
-    let image = machine.image();
-    let offset = places(&image).1;
-    let byte = machine.storage()[offset];
-    let answer = machine.call(Call::BusAction { ba_high, ba_high_phi1, cycle });
-    machine.load(&image);
-    machine.storage_mut()[offset] = byte;
-    answer
 }
 
 /// How often a run was at the top: cycles that brought the count there, and cycles that were granted when it was there.

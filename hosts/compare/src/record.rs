@@ -93,7 +93,6 @@ pub fn record(machine: &mut dyn Machine, seed: u64) -> String {
     format!(
         "# What the original answers to {calls} calls: made from its Rust, compiled unchanged, by\n\
          # `{how}`. src/record.rs says how a line is read.\n\
-         # The count of granted cycles, image bytes {IMAGE_GRANTED_CYCLES} to {}, is not its own: src/granted.rs keeps it.\n{text}",
-        IMAGE - 1
+         # Image bytes from {IMAGE_GRANTED_CYCLES} on, the count of granted cycles, are src/granted.rs's.\n{text}"
     )
 }

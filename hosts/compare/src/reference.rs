@@ -8,6 +8,8 @@ use reu::IMAGE_GRANTED_CYCLES;
 #[derive(Default)]
 pub struct Original {
     machine: original::Machine,
+    /// Asked for grants, so that the one that is compared is never set back.
+    asked: original::Machine,
     count: u32,
 }
 
@@ -27,6 +29,11 @@ impl Machine for Original {
     fn load(&mut self, image: &Image) {
         self.machine.load(image);
         self.count = count_of(image);
+    }
+
+    fn grant(&mut self, ba_high: u32, ba_high_phi1: u32, cycle: u64) -> u32 {
+        self.asked.load(&self.machine.image());
+        self.asked.bus_action(ba_high, ba_high_phi1, cycle)
     }
 
     fn interrupt(&self) -> bool {

@@ -1,7 +1,6 @@
 //! Document 01's sixteen recorded sessions, on any machine.
 
 use crate::calls::{Call, Step};
-use crate::granted::grant;
 use crate::sides::{Machine, STORAGE};
 
 /// A machine as the sessions use it: new, enabled, BA high.
@@ -237,7 +236,7 @@ fn r16(machine: &mut dyn Machine) -> bool {
     let mut grants = Vec::new();
     for cycle in 10..15 {
         let (ba_high, ba_high_phi1) = (u32::from(cycle != 10), u32::from(cycle != 11));
-        grants.push(grant(desk.machine, ba_high, ba_high_phi1, cycle));
+        grants.push(desk.machine.grant(ba_high, ba_high_phi1, cycle));
         desk.cycle = cycle;
         desk.cycle(ba_high, ba_high_phi1);
     }

@@ -39,6 +39,17 @@ pub trait Machine {
     /// Makes them so again.
     fn mend_guards(&mut self) {}
 
+    /// What `bus_action` would answer now; the machine is left as it was.
+    fn grant(&mut self, ba_high: u32, ba_high_phi1: u32, cycle: u64) -> u32 {
+        let image = self.image();
+        let offset = places(&image).1;
+        let byte = self.storage()[offset];
+        let answer = self.call(Call::BusAction { ba_high, ba_high_phi1, cycle });
+        self.load(&image);
+        self.storage_mut()[offset] = byte;
+        answer
+    }
+
     /// Does one step; a call gives its answer.
     fn step(&mut self, step: Step) -> Option<u32> {
         match step {
