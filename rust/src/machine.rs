@@ -105,7 +105,7 @@ impl Machine {
         self.image[IMAGE_FLAGS] & FLAG_INTERRUPT != 0
     }
 
-    /// How many bus cycles were granted since the last start that had storage.
+    /// How many bus cycles were granted since new, reset or the last start that had storage.
     ///
     /// - [`Machine::run_reu_cycle`] adds one where its grant is [`Grant::Transfer`], and nothing where it is another;
     ///   at 4,294,967,295 the count stays.
