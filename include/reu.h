@@ -68,7 +68,7 @@
 extern "C" {
 #endif
 
-#define REU_VERSION "0.1.0"
+#define REU_VERSION "0.2.0"
 
 /* Lengths of the buffers; REU_IMAGE_SIZE stands behind the image's places. */
 #define REU_BUS_SIZE 65536
