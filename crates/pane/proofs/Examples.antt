@@ -9,41 +9,51 @@ use Rattle.controller.specs.Refusals.{checked, refusalOf, wellFormed}
 use Rattle.image.specs.Layout.{imageSize, reuAt}
 use Rattle.image.specs.Open.{bytesOk, imageOk, openImage}
 use Rattle.reu.specs.Exports.{code, look, reuDmaActive}
-use Rattle.pane.specs.Rows.{copyOf, flagsRow, heldRow, refusedRow, rowOf, runningRow, transferRow}
+use Rattle.pane.specs.Rows.{copyOf, flagsRow, grantedIn, grantedRow, heldRow, refusedRow, rowOf, runningRow, transferRow}
 use Rattle.text.specs.Shown.{_⊕_, ascii, bitsFrom, decimalUpTo, hexOf}
 
--- flags 0D: enabled, attached, armed; a swap of two bytes in its write phase at bus 2000 and expansion F80000
+-- flags 0D: enabled, attached, armed; a swap of two bytes in its write phase at bus 2000 and expansion F80000, with 01020304 cycles granted
 unfoldable image : List ℕ
 image =
-    replicate 18 0 ++ (0x0D ∷ 0 ∷ 0 ∷ 1 ∷ 2 ∷ 1 ∷ 0x00 ∷ 0x20 ∷ 0x00 ∷ 0x00 ∷ 0xF8 ∷ 2 ∷ 0 ∷ 0 ∷ 0x33 ∷ 0x1C ∷ [])
+    replicate 18 0 ++ (0x0D ∷ 0 ∷ 0 ∷ 1 ∷ 2 ∷ 1 ∷ 0x00 ∷ 0x20 ∷ 0x00 ∷ 0x00 ∷ 0xF8 ∷ 2 ∷ 0 ∷ 0 ∷ 0x33 ∷ 0x1C
+    ∷ 0x04 ∷ 0x03 ∷ 0x02 ∷ 0x01 ∷ [])
 
 armed : flagsRow image 12 ≡ ascii "machine      enabled=1 attached=1 armed=1"
 unfolding image flagsRow bitsFrom _⊕_
 armed = refl
 
+-- 16,909,060 is 01020304; the top is a byte FF four times
+granted : grantedRow image ≡ ascii "granted      +16909060 cycles"
+unfolding image grantedRow grantedIn decimalUpTo _⊕_
+granted = refl
+
+granted-top : grantedRow (replicate imageSize 255) ≡ ascii "granted      +4294967295 cycles or more"
+unfolding grantedRow grantedIn decimalUpTo _⊕_
+granted-top = refl
+
 swaps : transferRow image ≡ ascii "transfer     swap, write phase"
 unfolding image transferRow _⊕_
 swaps = refl
 
-place : runningRow image 18 ≡ ascii "  at         c64 2000 exp F80000 left 00002"
+place : runningRow image 19 ≡ ascii "  at         c64 2000 exp F80000 left 00002"
 unfolding image runningRow hexOf _⊕_
 place = refl
 
-latch : runningRow image 19 ≡ ascii "  latch      33 first=1 odd=1 tail=0"
+latch : runningRow image 20 ≡ ascii "  latch      33 first=1 odd=1 tail=0"
 unfolding image runningRow bitsFrom hexOf _⊕_
 latch = refl
 
-options : runningRow image 20 ≡ ascii "  options    fixc64=0 fixexp=0 load=1"
+options : runningRow image 21 ≡ ascii "  options    fixc64=0 fixexp=0 load=1"
 unfolding image runningRow bitsFrom _⊕_
 options = refl
 
--- ---- images that are accepted or refused: this one runs a command, 33 bytes are too few, and ones alone are out of range
+-- ---- images that are accepted or refused: this one runs a command, 34 bytes, as before L1, are too few, and ones alone are out of range
 
 runs : reuDmaActive image ≡ 1
 unfolding image look checked openImage imageOk bytesOk wellFormed dmaActiveCall refusalOf code reuAt typeOf
 runs = refl
 
-too-short : reuDmaActive (replicate 33 0) ≡ 16777216
+too-short : reuDmaActive (replicate 34 0) ≡ 16777216
 unfolding look checked openImage
 too-short = refl
 
@@ -56,16 +66,16 @@ accepted-row : rowOf image 12 ≡ ascii "machine      enabled=1 attached=1 armed
 unfolding rowOf heldRow
 accepted-row = rw runs armed
 
-accepted-says-nothing : rowOf image 21 ≡ []
+accepted-says-nothing : rowOf image 22 ≡ []
 unfolding image rowOf heldRow runningRow
 accepted-says-nothing = rw runs
 
 -- a refused one has no row but that
-refused-short : rowOf (replicate 33 0) 21 ≡ ascii "image        refused by 1: no controller"
+refused-short : rowOf (replicate 34 0) 22 ≡ ascii "image        refused by 1: no controller"
 unfolding rowOf refusedRow decimalUpTo _⊕_
 refused-short = rw too-short
 
-refused-range : rowOf (replicate imageSize 255) 21 ≡ ascii "image        refused by 2: no controller"
+refused-range : rowOf (replicate imageSize 255) 22 ≡ ascii "image        refused by 2: no controller"
 unfolding rowOf refusedRow decimalUpTo _⊕_
 refused-range = rw out-of-range
 
@@ -74,5 +84,5 @@ unfolding rowOf refusedRow
 no-register = rw out-of-range
 
 -- nor has the copy with which it is compared later
-no-register-before : rowOf (copyOf (replicate 33 0)) 0 ≡ []
+no-register-before : rowOf (copyOf (replicate 34 0)) 0 ≡ []
 no-register-before = no-register

@@ -6,11 +6,13 @@ use lib.Dec.{eqb, ltb}
 use lib.ListN.{getD, length, replicate}
 use Rattle.transfer.specs.Bytes.{long, word}
 use Rattle.transfer.specs.Constants.{status, command, c64Low, expLow, lengthLow, interruptMask, addressControl}
-use Rattle.image.specs.Layout.{imageSize, placeOf, shadowC64, shadowExp, shadowLength, flags, moreFlags, delay, transfer, kind, phase, transferC64, transferExp, remaining, latch, options}
+use Rattle.controller.specs.Cycle.{mostGranted}
+use Rattle.image.specs.Fields.{lifted}
+use Rattle.image.specs.Layout.{at, fields, imageSize, placeOf, shadowC64, shadowExp, shadowLength, flags, moreFlags, delay, transfer, kind, phase, transferC64, transferExp, remaining, latch, options, grantedCycles}
 use Rattle.reu.specs.Exports.{reuDebugRegister, reuDmaActive, reuRead}
 use Rattle.pane.specs.Answers.{accepted, refusedBy}
 use Rattle.text.specs.Bytes.{byteAt}
-use Rattle.text.specs.Shown.{_⊕_, ascii, bitsOf, hexOf}
+use Rattle.text.specs.Shown.{_⊕_, ascii, bitsOf, decimalOf, hexOf}
 
 -- ---- the numbers of two and three bytes that stand at a place
 
@@ -74,6 +76,18 @@ flagsRow i n =
     (cond (eqb n 15) ([] ⊕ bitsOf "swap rules   refresh=0 release=1" (byteAt i (placeOf moreFlags)))
     ([] ⊕ ascii "delay        " ⊕ hexOf 1 (byteAt i (placeOf delay)))))))
 
+-- ---- the count of granted cycles
+
+-- the image's number, as opening it takes it from the list of fields
+unfoldable pub grantedIn : List ℕ → ℕ
+grantedIn i = at (lifted fields i) grantedCycles
+
+-- in decimal; "held at 4,294,967,295", where more may have been granted
+unfoldable pub grantedRow : List ℕ → List ℕ
+grantedRow i =
+    let t : List ℕ = [] ⊕ ascii "granted      " ⊕ decimalOf (grantedIn i) ⊕ ascii " cycles" in
+    cond (eqb (grantedIn i) mostGranted) (t ⊕ ascii " or more") t
+
 -- ---- the transfer
 
 -- its type and phase
@@ -88,12 +102,12 @@ transferRow i =
 unfoldable pub runningRow : List ℕ → ℕ → List ℕ
 runningRow i n =
     cond (eqb (byteAt i (placeOf transfer)) 0) []
-    (cond (eqb n 18)
+    (cond (eqb n 19)
     ([] ⊕ ascii "  at         c64 " ⊕ hexOf 4 (wordAt i (placeOf transferC64)) ⊕ ascii " exp " ⊕ hexOf 6 (longAt i (placeOf transferExp)) ⊕ ascii " left "
     ⊕ hexOf 5 (longAt i (placeOf remaining)))
-    (cond (eqb n 19)
+    (cond (eqb n 20)
     ([] ⊕ ascii "  latch      " ⊕ hexOf 2 (byteAt i (placeOf latch)) ⊕ bitsOf " first=3 odd=4 tail=5" (byteAt i (placeOf options)))
-    (cond (eqb n 20) ([] ⊕ bitsOf "  options    fixc64=0 fixexp=1 load=2" (byteAt i (placeOf options))) [])))
+    (cond (eqb n 21) ([] ⊕ bitsOf "  options    fixc64=0 fixexp=1 load=2" (byteAt i (placeOf options))) [])))
 
 -- ---- all of them
 
@@ -102,12 +116,13 @@ unfoldable pub heldRow : List ℕ → ℕ → List ℕ
 heldRow i n =
     cond (ltb n 11) (registerRow i n)
     (cond (ltb n 17) (flagsRow i n)
-    (cond (eqb n 17) (transferRow i) (runningRow i n)))
+    (cond (eqb n 17) (grantedRow i)
+    (cond (eqb n 18) (transferRow i) (runningRow i n))))
 
 -- of a refused image one row says so, which an accepted one has not; no bytes in the others
 unfoldable pub refusedRow : ℕ → ℕ → List ℕ
 refusedRow answer n =
-    cond (eqb n 21) ([] ⊕ ascii "image        " ⊕ refusedBy answer ⊕ ascii ": no controller") []
+    cond (eqb n 22) ([] ⊕ ascii "image        " ⊕ refusedBy answer ⊕ ascii ": no controller") []
 
 -- every call refuses an image alike: one is asked
 unfoldable pub rowOf : List ℕ → ℕ → List ℕ

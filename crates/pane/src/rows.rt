@@ -10,11 +10,11 @@ ghost use mathlib.Core.List.{[]};
 ghost use Prim.Native.Nat.{_%_, _<_, _≤_};
 ghost use lib.ListN.{length};
 ghost use Rattle.image.specs.Layout.{imageSize, placeOf, transferExp};
-ghost use Rattle.pane.specs.Rows.{copyOf, flagsRow, heldRow, longAt, reads, refusedRow, registerName, registerRow, rowOf, runningRow, transferRow, typeName, wordAt};
+ghost use Rattle.pane.specs.Rows.{copyOf, flagsRow, grantedIn, grantedRow, heldRow, longAt, reads, refusedRow, registerName, registerRow, rowOf, runningRow, transferRow, typeName, wordAt};
 ghost use Rattle.pane.specs.Rows.{held as Rows·held, spelled as Rows·spelled};
 ghost use Rattle.text.specs.Shown.{_⊕_, ascii, bitsOf, hexOf, textOf};
 
-pub const ROWS: usize = 22;
+pub const ROWS: usize = 23;
 // The registers that a row spells out, the low byte of a pair.
 const STATUS: usize = layout::REGISTERS;
 
@@ -32,7 +32,7 @@ const ADDRESS_CONTROL: usize = layout::REGISTERS + 10;
 
 // Two bytes, low byte first.
 fn word(s: &[u8], i: usize) -> u32
-    requires { ⌜ i < 32 ⌝ }
+    requires { ⌜ i < imageSize ⌝ }
     ensures { λ r. ⌜ r ≡ wordAt (now (s .entry)) i ⌝ }
     ensures { λ r. ⌜ r ≤ 65535 ⌝ }
 {
@@ -41,7 +41,7 @@ fn word(s: &[u8], i: usize) -> u32
 
 // Three bytes, low byte first.
 fn long(s: &[u8], i: usize) -> u32
-    requires { ⌜ i < 32 ⌝ }
+    requires { ⌜ i < imageSize ⌝ }
     ensures { λ r. ⌜ r ≡ longAt (now (s .entry)) i ⌝ }
 {
     word(s, i) + 65536 * (byte(s, i + 2) as u32)
@@ -189,6 +189,30 @@ fn flags_row(image: &[u8], row: usize) -> Line
     }
 }
 
+// ---- the count of granted cycles
+
+// Four bytes, low byte first.
+fn granted(image: &[u8]) -> u32
+    ensures { λ r. ⌜ r ≡ grantedIn (now (image .entry)) ⌝ }
+{
+    word(image, layout::GRANTED_CYCLES) + 65536 * word(image, layout::GRANTED_CYCLES + 2)
+}
+
+// The number is held at its top: there it says that there may have been more.
+fn granted_row(image: &[u8]) -> Line
+    ensures { λ r. ⌜ textOf r ≡ grantedRow (now (image .entry)) ⌝ }
+{
+    let count = granted(image);
+    let line = Line::new()
+        .text(b"granted      ")
+        .decimal(count as u64)
+        .text(b" cycles");
+    if count == u32::MAX {
+        return line.text(b" or more");
+    }
+    line
+}
+
 // ---- the transfer
 
 fn transfer_row(image: &[u8]) -> Line
@@ -226,15 +250,15 @@ fn running_row(image: &[u8], row: usize) -> Line
         return line;
     }
     match row {
-        18 => place_row(
+        19 => place_row(
             word(image, layout::TRANSFER_C64),
             long(image, layout::TRANSFER_EXPANSION),
             long(image, layout::REMAINING),
         ),
-        19 => line.text(b"  latch      ")
+        20 => line.text(b"  latch      ")
             .hex2(byte(image, layout::LATCH))
             .bits(b" first=3 odd=4 tail=5", byte(image, layout::OPTIONS)),
-        20 => line.bits(
+        21 => line.bits(
             b"  options    fixc64=0 fixexp=1 load=2",
             byte(image, layout::OPTIONS),
         ),
@@ -244,7 +268,7 @@ fn running_row(image: &[u8], row: usize) -> Line
 
 // ---- any of them
 
-// What the controller holds; rows 18 on are empty where no command runs.
+// What the controller holds; rows 19 on are empty where no command runs.
 fn held_row(image: &[u8], row: usize) -> Line
     ensures { λ r. ⌜ textOf r ≡ heldRow (now (image .entry)) row ⌝ }
 {
@@ -255,6 +279,9 @@ fn held_row(image: &[u8], row: usize) -> Line
         return flags_row(image, row);
     }
     if row == 17 {
+        return granted_row(image);
+    }
+    if row == 18 {
         return transfer_row(image);
     }
     running_row(image, row)
@@ -265,7 +292,7 @@ fn refused_row(answer: u32, row: usize) -> Line
     ensures { λ r. ⌜ textOf r ≡ refusedRow answer row ⌝ }
 {
     let line = Line::new();
-    if row == 21 {
+    if row == 22 {
         return refusal(line.text(b"image        "), answer).text(b": no controller");
     }
     line

@@ -1,0 +1,35 @@
+-- The count of granted cycles: the number of the image's list, and the four bytes that the row reads.
+use mathlib.Core.Path.{_≡_, refl, _∙_, ap}
+use mathlib.Core.List.{List, [], _∷_, _++_}
+use Prim.Native.Nat.{ℕ, _+_, _*_}
+use native.Mathlib.Omega.{arith}
+use lib.ListN.{length, drop, take}
+use lib.Seq.{drop-drop, getD-drop}
+use Rattle.image.specs.Fields.{lifted, radices, size}
+use Rattle.image.specs.Layout.{at, fields, grantedCycles, placeOf}
+use Rattle.image.specs.Radix.{joined}
+use Rattle.pane.specs.Rows.{grantedIn, wordAt}
+
+-- the number behind some fields is the first of the bytes behind them
+behind : (fs gs : List (ℕ × ℕ)) (s : List ℕ) → at (lifted (fs ++ gs) s) (length fs) ≡ at (lifted gs (drop (size fs) s)) 0
+behind [] gs s = refl
+behind (f ∷ fs) gs s =
+    behind fs gs (drop (f .0) s) ∙ ap (λ (l : List ℕ). at (lifted gs l) 0) (drop-drop (size fs) (f .0) s)
+
+-- four bytes are two numbers of two; bytes past the end are 0
+four : (s : List ℕ) → joined (radices 4) (take 4 s) ≡ wordAt s 0 + 65536 * wordAt s 2
+four [] = refl
+four (a ∷ []) = omega arith
+four (a ∷ b ∷ []) = omega arith
+four (a ∷ b ∷ c ∷ []) = omega arith
+four (a ∷ b ∷ c ∷ d ∷ s) = omega arith
+
+module _ (s : List ℕ) where
+  there : wordAt (drop (placeOf grantedCycles) s) 0 + 65536 * wordAt (drop (placeOf grantedCycles) s) 2
+      ≡ wordAt s (placeOf grantedCycles) + 65536 * wordAt s (placeOf grantedCycles + 2)
+  there = simp getD-drop refl
+
+  pub counted : grantedIn s ≡ wordAt s (placeOf grantedCycles) + 65536 * wordAt s (placeOf grantedCycles + 2)
+  unfolding grantedIn
+  counted =
+      behind (take grantedCycles fields) (drop grantedCycles fields) s ∙ four (drop (placeOf grantedCycles) s) ∙ there
