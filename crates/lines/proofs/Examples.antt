@@ -1,14 +1,15 @@
--- Worked examples of the definitions, with what was expected written by hand: bytes stored, faults, BA, two panes side by side.
+-- Worked examples of the definitions, with what was expected written by hand: bytes stored, faults, lengths of files, BA, two panes side by side.
 use mathlib.Core.Path.{_≡_, refl}
 use mathlib.Core.Bool.{true, false}
 use mathlib.Core.List.{List, [], _∷_, _++_}
 use lib.ListN.{replicate}
 use Rattle.text.specs.Faults.{faultOf, faultsFrom}
-use Rattle.text.specs.Shown.{_⊕_, ascii, fillFrom, hexOf}
+use Rattle.text.specs.Shown.{_⊕_, ascii, decimalUpTo, fillFrom, hexOf}
 use Rattle.text.specs.Typed.{digitsFrom, numberOf, same, wordFrom, wordsFrom}
 use Rattle.lines.specs.Beside.{besideRow}
 use Rattle.lines.specs.Clock.{inputsOf, isPattern}
 use Rattle.lines.specs.Commands.{commandFault, isComment, lineFault, otherFault, placeIn, placeOf}
+use Rattle.lines.specs.Files.{lengthFault, lengthText, reasonText}
 use Rattle.lines.specs.Memory.{bytesFrom, bytesLine, bytesText, each, stored, storeFault}
 
 two-bytes : stored (ascii "> $2 11 +34") (replicate 5 0) ≡ 0 ∷ 0 ∷ 0x11 ∷ 0x22 ∷ 0 ∷ []
@@ -31,6 +32,24 @@ no-command = refl
 not-reset : lineFault (0 ∷ ascii "reset") ≡ ascii "unknown command: " ++ (0 ∷ ascii "reset (help lists them)")
 unfolding lineFault isComment commandFault otherFault fillFrom same wordsFrom wordFrom _⊕_
 not-reset = refl
+
+-- an image as it was before the count, another that is too short, a storage that goes on; no bus is an old image
+old-image : lengthFault (ascii "old.reu") 0 34 38
+    ≡ ascii "refused: old.reu has 34 bytes, 38 are needed (refusal 1): it was saved before the count of granted cycles"
+unfolding lengthText reasonText decimalUpTo fillFrom _⊕_
+old-image = refl
+
+short-image : lengthFault (ascii "x") 0 33 38 ≡ ascii "refused: x has 33 bytes, 38 are needed (refusal 1)"
+unfolding lengthText reasonText decimalUpTo fillFrom _⊕_
+short-image = refl
+
+long-storage : lengthFault (ascii "x") 2 524289 524288 ≡ ascii "refused: x.storage has more than 524288 bytes, 524288 are needed"
+unfolding lengthText reasonText decimalUpTo fillFrom _⊕_
+long-storage = refl
+
+short-bus : lengthFault (ascii "x") 1 34 65536 ≡ ascii "refused: x.bus has 34 bytes, 65536 are needed"
+unfolding lengthText reasonText decimalUpTo fillFrom _⊕_
+short-bus = refl
 
 -- where every name stands, and where what is none
 third : placeOf (ascii "ms") ≡ 2

@@ -3,6 +3,7 @@ use crate::output::say;
 use crate::output::show_beside;
 use image::layout::IMAGE_BYTES;
 use lines::files::copy;
+use lines::files::length_fault;
 use lines::files::part_name;
 use lines::memory::empty_bus;
 use lines::memory::empty_storage;
@@ -45,29 +46,34 @@ pub(crate) fn save(name: Line, image: &[u8], bus: &[u8], storage: &[u8]) {
 
 // ---- opening
 
-// Reads a part into bytes of its length; what is wrong with it, as a line.
-fn read_part(name: Line, bytes: &mut [u8]) -> Line {
-    let path = name.all();
-    let fd = os::open_read(first(&path, name.used));
+// Reads a part into bytes of its length; what is wrong with it, as a line. A byte past them shows that a file goes on.
+fn read_part(name: Line, part: u8, bytes: &mut [u8]) -> Line {
+    let file = part_name(name, part);
+    let path = file.all();
+    let fd = os::open_read(first(&path, file.used));
     if fd < 0 {
-        return fill(b"cannot read %: no such file, or it may not be read", name);
+        return fill(b"cannot read %: no such file, or it may not be read", file);
     }
+    let needed = bytes.len();
     let got = io::read_full(fd, bytes);
     let mut more = [0u8; 1];
     let past = libc::read(fd, &mut more);
     libc::close(fd);
-    if (got == bytes.len()) & (past == 0) {
+    if (got == needed) & (past == 0) {
         return Line::new();
     }
-    fill(
-        b"refused: % has not the length of this part of a saved machine, or cannot be read",
-        name,
-    )
+    if past == 0 {
+        return length_fault(name, part, got, needed);
+    }
+    if (got == needed) & (past == 1) {
+        return length_fault(name, part, got + 1, needed);
+    }
+    fill(b"cannot read %: it is no file, or reading it failed", file)
 }
 
 // The image alone, tested as every call tests it.
 fn read_image(name: Line, image: &mut [u8]) -> Line {
-    let found = read_part(name, image);
+    let found = read_part(name, 0, image);
     if !found.is_empty() {
         return found;
     }
@@ -86,11 +92,11 @@ fn read_machine(name: Line, image: &mut [u8], bus: &mut [u8], storage: &mut [u8]
     if !found.is_empty() {
         return found;
     }
-    let also = read_part(part_name(name, 1), bus);
+    let also = read_part(name, 1, bus);
     if !also.is_empty() {
         return also;
     }
-    read_part(part_name(name, 2), storage)
+    read_part(name, 2, storage)
 }
 
 // The machine is changed once all three parts are there. Answers what to say.
