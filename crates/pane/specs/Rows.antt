@@ -111,6 +111,10 @@ runningRow i n =
 
 -- ---- all of them
 
+-- how many; the last is of refused images alone
+abbrev pub rowCount : ℕ
+rowCount = 23
+
 -- what the controller holds
 unfoldable pub heldRow : List ℕ → ℕ → List ℕ
 heldRow i n =
