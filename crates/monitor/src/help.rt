@@ -3,7 +3,7 @@ use crate::output::tell;
 
 pub(crate) fn help() {
     tell(
-        b"r                the pane: registers, shadows, flags, the transfer
+        b"r                the pane: registers, shadows, flags, granted cycles, the transfer
 m ADDR [END]     bytes of the bus; ms ADDR [END] of the storage
 > ADDR BYTE..    put bytes on the bus; >s ADDR BYTE.. in the storage
 w ADDR BYTE..    write registers, one after another: w DF02 00 10; rd ADDR reads one
