@@ -1,5 +1,5 @@
 -- The count of granted cycles: the number of the image's list, and the four bytes that the row reads.
-use mathlib.Core.Path.{_≡_, refl, _∙_, ap}
+use mathlib.Core.Path.{_≡_, refl, sym, _∙_, ap}
 use mathlib.Core.List.{List, [], _∷_, _++_}
 use Prim.Native.Nat.{ℕ, _+_, _*_}
 use native.Mathlib.Omega.{arith}
@@ -29,7 +29,11 @@ module _ (s : List ℕ) where
       ≡ wordAt s (placeOf grantedCycles) + 65536 * wordAt s (placeOf grantedCycles + 2)
   there = simp getD-drop refl
 
-  pub counted : grantedIn s ≡ wordAt s (placeOf grantedCycles) + 65536 * wordAt s (placeOf grantedCycles + 2)
+  counted : grantedIn s ≡ wordAt s (placeOf grantedCycles) + 65536 * wordAt s (placeOf grantedCycles + 2)
   unfolding grantedIn
   counted =
       behind (take grantedCycles fields) (drop grantedCycles fields) s ∙ four (drop (placeOf grantedCycles) s) ∙ there
+
+  -- read as two numbers of two bytes
+  pub halves : {a b : ℕ} → a ≡ wordAt s (placeOf grantedCycles) → b ≡ wordAt s (placeOf grantedCycles + 2) → a + 65536 * b ≡ grantedIn s
+  halves p q = (λ j. p j + 65536 * q j) ∙ sym counted
