@@ -42,7 +42,7 @@ fn length_text(file: Line, got: usize, needed: usize) -> Line
     line.digits(got as u64)
 }
 
-// An image has a refusal number, and may be an old one.
+// Only an image has a refusal number for this, and only an image may be an old one.
 fn reason(line: Line, part: u8, got: usize) -> Line
     ensures { λ r. ⌜ textOf r ≡ reasonText (textOf line) part got ⌝ }
 {
@@ -56,7 +56,7 @@ fn reason(line: Line, part: u8, got: usize) -> Line
     image
 }
 
-// The line about it: of `got` bytes, `needed` are the part's.
+// The line about it. `got` is its length, or, where it goes on past the bytes that its part needs, one more than these.
 pub fn length_fault(name: Line, part: u8, got: usize, needed: usize) -> Line
     ensures { λ r. ⌜ textOf r ≡ lengthFault (textOf name) part got needed ⌝ }
 {
