@@ -1,13 +1,19 @@
 -- What an accepted call knows of what it was handed, and what a tested call does: laws for every call of this crate and of `reu`.
 use mathlib.Core.Path.{_≡_, refl, sym, ap, _∙_}
 use mathlib.Core.Bool.{Bool, true, false, cond}
-use Prim.Native.Nat.{ℕ}
+use Prim.Native.Nat.{ℕ, _≤_}
 use lib.Dec.{eqb}
 use native.Mathlib.Omega.{arith}
 use borrow.Author.Tests.{eqb-true, eq-eqb, ne-eqb}
-use Rattle.controller.specs.Prelude.{Reu}
+use mathlib.Core.List.{List}
+use Rattle.controller.specs.Prelude.{Passed, Reu, ReuBusAction, Cpu, Hold, Transfer}
 use Rattle.transfer.specs.Constants.{busSize, storageSize}
+use Rattle.transfer.proofs.Bits.{bit-most}
 use Rattle.controller.specs.Refusals.{wellFormed, refusalOf, checked}
+use Rattle.controller.specs.BusAction.{busAction}
+use Rattle.controller.specs.Calls.{stepNumber}
+use Rattle.controller.specs.TickDma.{tickDma}
+use Rattle.controller.specs.Cycle.{cycleBy, runReuCycle}
 
 pub record Accepted (u : Reu) (bus storage : ℕ) : Type 0 where
   pub well : wellFormed u ≡ true
@@ -35,3 +41,22 @@ module _ {A : Type 0} (n k : ℕ) (e : n ≡ k) (refused : ℕ → A) (x a : A) 
   unfolding checked
   not-done ne h =
       h ∙ ap refused e ∙ sym (ap (λ (t : Bool). cond t a (refused k)) (ap (λ (j : ℕ). eqb j 0) (sym e) ∙ ne-eqb n 0 ne))
+
+-- a tick and a cycle that are done are no refusal
+pub tick-accepted : (u : Reu) (m s : List ℕ) (cycle : ℕ) (low : Bool) → tickDma u m s cycle low .0 .refusal ≡ 0
+unfolding tickDma
+tick-accepted u m s cycle low = refl
+
+by-grant : (a : ReuBusAction) (u : Reu) (m s : List ℕ) (cycle : ℕ) (low : Bool) → cycleBy a u m s cycle low .0 .refusal ≡ 0
+unfolding cycleBy
+by-grant Cpu u m s cycle low = refl
+by-grant Hold u m s cycle low = refl
+by-grant Transfer u m s cycle low = refl
+
+pub cycle-accepted : (u : Reu) (m s : List ℕ) (high phi1 : Bool) (cycle : ℕ) (low : Bool) → runReuCycle u m s high phi1 cycle low .0 .refusal ≡ 0
+unfolding runReuCycle
+cycle-accepted u m s high phi1 cycle low = by-grant (busAction u s high phi1 cycle .0 .action) _ m _ cycle low
+
+-- their value, with both marks, is at most 7
+pub step-most : (b : Bool) (p : Passed) → stepNumber b p ≤ 7
+step-most b p = omega (arith, bit-most b, bit-most (p .c64), bit-most (p .expansion))

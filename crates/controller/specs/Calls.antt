@@ -1,15 +1,15 @@
 -- The public calls on a controller value: "A refusal has value 0 and changes no controller and no byte of anything lent".
-use Rattle.controller.specs.Prelude.{ℕ, Bool, cond, List, length, Reu, Answer, Stepped}
+use Rattle.controller.specs.Prelude.{ℕ, _+_, Bool, false, cond, List, length, Passed, Reu, Answer, StepAnswer, Stepped}
 use Rattle.transfer.specs.Constants.{busSize, storageSize}
 use Rattle.transfer.specs.Bytes.{bitOf}
 use Rattle.controller.specs.Registers.{readRegister, writeRegister, debugRegister}
 use Rattle.controller.specs.Timing.{c64Access}
 use Rattle.transfer.specs.Timing.{accessNumber, actionNumber}
-use Rattle.transfer.specs.Dma.{active}
+use Rattle.transfer.specs.Dma.{active, passedNumber}
 use Rattle.controller.specs.StartDma.{triggerFf00}
 use Rattle.controller.specs.Enable.{resetReu, setEnabled}
 use Rattle.controller.specs.BusAction.{Granted, busAction, cpuReadyAfterDma}
-use Rattle.controller.specs.TickDma.{Ticked, tickDma}
+use Rattle.controller.specs.TickDma.{Ticked, quietStep, tickDma}
 use Rattle.controller.specs.Cycle.{runReuCycle}
 use Rattle.controller.specs.Refusals.{refusalOf, checked}
 
@@ -31,8 +31,8 @@ call u done = checked (refusalOf u busSize storageSize) (refused u) done
 abbrev pub callStorage : Reu → List ℕ → (Answer × List ℕ) → (Answer × List ℕ)
 callStorage u s done = checked (refusalOf u busSize (length s)) (λ n. (refused u n, s)) done
 
-abbrev pub callBoth : Reu → List ℕ → List ℕ → (Answer × List ℕ × List ℕ) → (Answer × List ℕ × List ℕ)
-callBoth u m s done = checked (refusalOf u (length m) (length s)) (λ n. (refused u n, m, s)) done
+abbrev pub callBoth : Reu → List ℕ → List ℕ → Ticked → Ticked
+callBoth u m s done = checked (refusalOf u (length m) (length s)) (λ n. (quietStep n false u, m, s)) done
 
 -- ---- the calls
 
@@ -78,19 +78,23 @@ grantedAnswer x = (answered (actionNumber (x .0 .action)) (x .0 .reu), x .1)
 unfoldable pub busActionCall : Reu → List ℕ → Bool → Bool → ℕ → (Answer × List ℕ)
 busActionCall u s high phi1 cycle = callStorage u s (grantedAnswer (busAction u s high phi1 cycle))
 
-abbrev pub tickedAnswer : Ticked → (Answer × List ℕ × List ℕ)
-tickedAnswer x = (answered (bitOf (x .0 .flag)) (x .0 .reu), x .1, x .2)
+unfoldable pub tickCall : Reu → List ℕ → List ℕ → ℕ → Bool → Ticked
+tickCall u m s cycle low = callBoth u m s (tickDma u m s cycle low)
 
-unfoldable pub tickCall : Reu → List ℕ → List ℕ → ℕ → Bool → (Answer × List ℕ × List ℕ)
-tickCall u m s cycle low = callBoth u m s (tickedAnswer (tickDma u m s cycle low))
+unfoldable pub cycleCall : Reu → List ℕ → List ℕ → Bool → Bool → ℕ → Bool → Ticked
+cycleCall u m s high phi1 cycle low = callBoth u m s (runReuCycle u m s high phi1 cycle low)
 
-unfoldable pub cycleCall : Reu → List ℕ → List ℕ → Bool → Bool → ℕ → Bool → (Answer × List ℕ × List ℕ)
-cycleCall u m s high phi1 cycle low = callBoth u m s (tickedAnswer (runReuCycle u m s high phi1 cycle low))
+-- L2: "tick and cycle pass both on with their answers (each one's value plus 2 and plus 4)": the answer with its value as a number
+abbrev pub stepNumber : Bool → Passed → ℕ
+stepNumber flag p = bitOf flag + passedNumber p
+
+abbrev pub numbered : StepAnswer → Answer
+numbered a = record { refusal = a .refusal; value = stepNumber (a .flag) (a .passed); reu = a .reu }
 
 -- ---- the step over a controller that is lent: the answer, then the controller
 
-abbrev pub stepped : (Answer × List ℕ × List ℕ) → (Stepped × Reu × List ℕ × List ℕ)
-stepped x = (record { refusal = x .0 .refusal; value = x .0 .value }, x .0 .reu, x .1, x .2)
+abbrev pub stepped : Ticked → (Stepped × Reu × List ℕ × List ℕ)
+stepped x = (record { refusal = x .0 .refusal; flag = x .0 .flag; passed = x .0 .passed }, x .0 .reu, x .1, x .2)
 
 abbrev pub stepCall : Reu → List ℕ → List ℕ → Bool → Bool → ℕ → Bool → (Stepped × Reu × List ℕ × List ℕ)
 stepCall u m s high phi1 cycle low = stepped (cycleCall u m s high phi1 cycle low)

@@ -20,6 +20,7 @@ pub use Rattle.transfer.specs.declared.dma.SwapPhase.the-variants.{ReadC64, Wri
 pub use Rattle.transfer.specs.declared.dma.DmaState.{DmaState}
 pub use Rattle.transfer.specs.declared.dma.Dma.{Dma}
 pub use Rattle.transfer.specs.declared.dma.Dma.the-variants.{Idle, Running}
+pub use Rattle.transfer.specs.declared.dma.Passed.{Passed}
 pub use Rattle.transfer.specs.declared.dma.Completed.{Completed}
 pub use Rattle.transfer.specs.declared.timing.ReuC64Access.{ReuC64Access}
 pub use Rattle.transfer.specs.declared.timing.ReuC64Access.the-variants.{None, Read, Write}
@@ -31,4 +32,5 @@ pub use Rattle.controller.specs.declared.reu.BusAnswer.{BusAnswer}
 pub use Rattle.controller.specs.declared.reu.FlagAnswer.{FlagAnswer}
 pub use Rattle.controller.specs.declared.reu.TickAnswer.{TickAnswer}
 pub use Rattle.controller.specs.declared.reu.Answer.{Answer}
+pub use Rattle.controller.specs.declared.reu.StepAnswer.{StepAnswer}
 pub use Rattle.controller.specs.declared.reu.Stepped.{Stepped}

@@ -1,31 +1,36 @@
 -- `tick_dma`, one granted cycle of a transfer. It sees the two bytes at the transfer's place, and writes at most one byte.
-use Rattle.controller.specs.Prelude.{ℕ, Bool, true, false, not, _&&_, _||_, cond, List, [], _∷_, eqb, Store, Recall, Swap, Verify, TransferType, SwapPhase, ReadC64, WriteC64, DmaState, Dma, Idle, Running, Seen, Put, Nothing, Bus, Storage, Reu, FlagAnswer, TickAnswer}
+use Rattle.controller.specs.Prelude.{ℕ, Bool, true, false, not, _&&_, _||_, cond, List, [], _∷_, eqb, Store, Recall, Swap, Verify, TransferType, SwapPhase, ReadC64, WriteC64, DmaState, Dma, Idle, Running, Seen, Put, Nothing, Bus, Storage, Passed, Reu, StepAnswer, TickAnswer}
 use Rattle.transfer.specs.Constants.{verifyError}
 use Rattle.transfer.specs.Bytes.{bit, ones}
 use Rattle.regs.specs.FinishDma.{marked}
 use Rattle.controller.specs.Reu.{withRegs, withDma, withRelease, withRefresh, withRepeat}
 use Rattle.transfer.specs.Dma.{withOdd, withLatch, withTail, recalled, latched}
 use Rattle.transfer.specs.Memory.{putBus, putStorage}
-use Rattle.transfer.specs.Dma.{isType, moved, seenBy}
+use Rattle.transfer.specs.Dma.{isType, moved, neither, passed, seenBy}
 use Rattle.controller.specs.FinishDma.{publishLiveCounters, finishDma}
 
--- what a tick answers, the controller after it, and what it writes
-abbrev pub ticks : Bool → Reu → Put → TickAnswer
-ticks flag u put = record { flag = flag; reu = u; put = put }
+-- what a tick answers and reports, the controller after it, and what it writes
+abbrev pub reports : Bool → Passed → Reu → Put → TickAnswer
+reports flag p u put = record { flag = flag; passed = p; reu = u; put = put }
 
--- a byte is done: the counters move and are shown. "Verify mismatch .. after the counters move, ends the command, unless it wasn't the last byte
--- and remaining is now 1. Then one more tick compares the last byte". The release flag: the block ended, of a swap, and `ba_low` is 0
+-- L2: "a verify tail, a swap's first phase .. report neither", nor does any other tick that completes no byte
+abbrev pub quietTick : Bool → Reu → Put → TickAnswer
+quietTick flag u put = reports flag neither u put
+
+-- a byte is done, and reports; the counters move and are shown. "Verify mismatch .. after the counters move, ends the command, unless it
+-- wasn't the last byte and remaining is now 1. Then one more tick compares the last byte". The release flag: the block ended, of a swap,
+-- and `ba_low` is 0
 unfoldable pub advance : Reu → DmaState → Bool → Bool → Put → TickAnswer
 advance u d error low put =
     cond (error && (not (eqb (d .remaining) 1) && eqb (moved d .remaining) 1))
-    (ticks true (withDma (publishLiveCounters u (moved d)) (Running (withTail (moved d) true))) put)
+    (reports true (passed d) (withDma (publishLiveCounters u (moved d)) (Running (withTail (moved d) true))) put)
     (cond (eqb (d .remaining) 1 || error)
-    (ticks false
+    (reports false (passed d)
     (finishDma
     (withRelease (publishLiveCounters u (moved d)) (eqb (d .remaining) 1 && (isType (d .«transfer_type») Swap && not low)))
     (moved d) (eqb (d .remaining) 1))
     put)
-    (ticks true (withDma (publishLiveCounters u (moved d)) (Running (moved d))) put))
+    (reports true (passed d) (withDma (publishLiveCounters u (moved d)) (Running (moved d))) put))
 
 -- a store: the C64's byte goes to the storage
 unfoldable pub tickStore : Reu → DmaState → Seen → Bool → TickAnswer
@@ -39,9 +44,7 @@ tickRecall u d b low =
 
 -- a swap: its first half latches the storage's byte and puts the C64's there, its second half puts the latch to the C64
 unfoldable pub swapRead : Reu → DmaState → Seen → ℕ → TickAnswer
-swapRead u d b cycle =
-    ticks true (withDma u (Running (latched d b cycle)))
-    (Storage (d .«reu_addr») (b .bus))
+swapRead u d b cycle = quietTick true (withDma u (Running (latched d b cycle))) (Storage (d .«reu_addr») (b .bus))
 
 unfoldable pub swapWrite : Reu → DmaState → Bool → TickAnswer
 swapWrite u d low = advance u d false low (Bus (d .«c64_addr») (d .latch))
@@ -69,11 +72,11 @@ tickByType Verify u d b cycle low = tickVerify u d b low
 -- a refresh reads the C64's byte once more into the storage, and takes the parity anew
 unfoldable pub tickRefresh : Reu → DmaState → Seen → ℕ → TickAnswer
 tickRefresh u d b cycle =
-    ticks true (withDma (withRefresh u false) (Running (withOdd d (bit cycle 0)))) (Storage (d .«reu_addr») (b .bus))
+    quietTick true (withDma (withRefresh u false) (Running (withOdd d (bit cycle 0)))) (Storage (d .«reu_addr») (b .bus))
 
 -- the tail "sets bit 6 exactly if equal, and moves no counter"
 unfoldable pub tickTail : Reu → DmaState → Seen → TickAnswer
-tickTail u d b = ticks false (finishDma u d (not (differs b))) Nothing
+tickTail u d b = quietTick false (finishDma u d (not (differs b))) Nothing
 
 unfoldable pub tickRunning : Reu → DmaState → Seen → ℕ → Bool → TickAnswer
 tickRunning u d b cycle low =
@@ -81,21 +84,25 @@ tickRunning u d b cycle low =
     (cond (d .«verify_tail») (tickTail u d b) (tickByType (d .«transfer_type») u d b cycle low))
 
 unfoldable pub tickOf : Dma → Reu → Seen → ℕ → Bool → TickAnswer
-tickOf Idle u b cycle low = ticks false u Nothing
+tickOf Idle u b cycle low = quietTick false u Nothing
 tickOf (Running d) u b cycle low =
-    cond (u .attached) (tickRunning u d b cycle low) (ticks false (withDma u Idle) Nothing)
+    cond (u .attached) (tickRunning u d b cycle low) (quietTick false (withDma u Idle) Nothing)
 
 -- ---- on a bus and a storage
 
 -- the answer and the controller, the bus, the storage
 abbrev pub Ticked : Type 0
-Ticked = FlagAnswer × List ℕ × List ℕ
+Ticked = StepAnswer × List ℕ × List ℕ
 
-abbrev pub ticked : Bool → Reu → FlagAnswer
-ticked flag u = record { flag = flag; reu = u }
+abbrev pub ticked : Bool → Passed → Reu → StepAnswer
+ticked flag p u = record { refusal = 0; flag = flag; passed = p; reu = u }
+
+-- a step that reports neither: a refusal by its number, or one that completes no byte
+abbrev pub quietStep : ℕ → Bool → Reu → StepAnswer
+quietStep n flag u = record { refusal = n; flag = flag; passed = neither; reu = u }
 
 abbrev pub landed : TickAnswer → List ℕ → List ℕ → Ticked
-landed t m s = (ticked (t .flag) (t .reu), putBus (t .put) m, putStorage (t .put) s)
+landed t m s = (ticked (t .flag) (t .passed) (t .reu), putBus (t .put) m, putStorage (t .put) s)
 
 unfoldable pub tickDma : Reu → List ℕ → List ℕ → ℕ → Bool → Ticked
 tickDma u m s cycle low = landed (tickOf (u .dma) u (seenBy (u .dma) m s) cycle low) m s

@@ -2,9 +2,10 @@
 ghost use mathlib.Core.Path.{_≡_};
 ghost use Rattle.controller.specs.Calls.{stepCall};
 ghost use Rattle.controller.specs.Cycle.{counted, cycleBy, runReuCycle};
+use crate::constants::ACCEPTED;
 use crate::constants::MOST_GRANTED;
-use crate::reu::FlagAnswer;
 use crate::reu::Reu;
+use crate::reu::StepAnswer;
 use crate::reu::Stepped;
 use transfer::ReuBusAction;
 
@@ -29,23 +30,20 @@ impl Reu {
         storage: &mut [u8],
         cycle: u64,
         ba_low: bool,
-    ) -> FlagAnswer
+    ) -> StepAnswer
         ensures { λ r. ⌜ (r, now (bus .exit), now (storage .exit)) ≡ cycleBy action self (now (bus .entry)) (now (storage .entry)) cycle «ba_low» ⌝ }
     {
         match action {
-            ReuBusAction::Cpu => FlagAnswer {
-                flag: false,
-                reu: self,
-            },
-            ReuBusAction::Hold => FlagAnswer {
-                flag: true,
-                reu: self,
-            },
+            ReuBusAction::Cpu => self.quiet_step(ACCEPTED, false),
+            ReuBusAction::Hold => self.quiet_step(ACCEPTED, true),
             ReuBusAction::Transfer => {
                 let ticked = self.tick(bus, storage, cycle, ba_low);
+                let passed = ticked.passed;
                 let reu = ticked.reu;
-                FlagAnswer {
+                StepAnswer {
+                    refusal: ACCEPTED,
                     flag: true,
+                    passed,
                     reu: reu.counted(),
                 }
             }
@@ -61,7 +59,7 @@ impl Reu {
         ba_high_phi1: bool,
         cycle: u64,
         ba_low: bool,
-    ) -> FlagAnswer
+    ) -> StepAnswer
         ensures { λ r. ⌜ (r, now (bus .exit), now (storage .exit)) ≡ runReuCycle self (now (bus .entry)) (now (storage .entry)) «ba_high» «ba_high_phi1» cycle «ba_low» ⌝ }
     {
         let answer = self.next_action(ba_high, ba_high_phi1, cycle);
@@ -90,6 +88,7 @@ pub fn step(
     *reu = done.reu;
     Stepped {
         refusal: done.refusal,
-        value: done.value,
+        flag: done.flag,
+        passed: done.passed,
     }
 }

@@ -16,4 +16,5 @@ mod tick_dma;
 pub use cycle::step;
 pub use reu::Answer;
 pub use reu::Reu;
+pub use reu::StepAnswer;
 pub use reu::Stepped;

@@ -2,7 +2,8 @@
 ghost use mathlib.Core.Path.{_≡_};
 ghost use Rattle.transfer.specs.Bytes.{bitOf};
 ghost use Rattle.controller.specs.Enable.{disabled, fresh, newReu, resetReu, setEnabled};
-ghost use Rattle.controller.specs.Calls.{answered, busActionCall, c64AccessCall, call, capacity, capacityBytesCall, cpuReadyCall, cycleCall, debugRegisterCall, dmaActiveCall, readCall, refused, resetCall, setEnabledCall, storagePresentCall, tickCall, triggerCall, writeCall};
+ghost use Rattle.controller.specs.TickDma.{quietStep};
+ghost use Rattle.controller.specs.Calls.{answered, busActionCall, c64AccessCall, call, capacity, capacityBytesCall, cpuReadyCall, cycleCall, debugRegisterCall, dmaActiveCall, numbered, readCall, refused, resetCall, setEnabledCall, storagePresentCall, tickCall, triggerCall, writeCall};
 use crate::constants::ACCEPTED;
 use crate::constants::BUS_BYTES;
 use crate::constants::REU_1764_CAPACITY_BYTES;
@@ -13,6 +14,7 @@ use regs::INTERRUPT_UNUSED_READ_HIGH;
 use regs::REGISTER_COUNT;
 use regs::STATUS_VERSION;
 use transfer::Dma;
+use transfer::Passed;
 use transfer::Put;
 use transfer::ReuBusAction;
 use transfer::clear;
@@ -58,9 +60,10 @@ pub struct FlagAnswer {
     pub reu: Reu,
 }
 
-// What a tick answers: whether the command goes on, the controller after it, and what is written.
+// What a tick answers: whether the command goes on, which address ran over its top, the controller after it, and what is written.
 pub struct TickAnswer {
     pub flag: bool,
+    pub passed: Passed,
     pub reu: Reu,
     pub put: Put,
 }
@@ -72,10 +75,20 @@ pub struct Answer {
     pub reu: Reu,
 }
 
-// What the step over a lent controller answers: the refusal number, 0 if it is accepted, and the value.
+// What a tick and a cycle answer: the refusal number, 0 if it is accepted, whether the command goes on or, of a cycle, whether the
+// processor is held, which address ran over its top, and the controller after it.
+pub struct StepAnswer {
+    pub refusal: u8,
+    pub flag: bool,
+    pub passed: Passed,
+    pub reu: Reu,
+}
+
+// What the step over a lent controller answers: the same, without the controller.
 pub struct Stepped {
     pub refusal: u8,
-    pub value: u32,
+    pub flag: bool,
+    pub passed: Passed,
 }
 
 // A controller after reset.
@@ -197,6 +210,22 @@ impl Reu {
         }
     }
 
+    // A tick or a cycle that is refused, or that completes no byte: it reports neither.
+    pub(crate) fn quiet_step(self, refusal: u8, flag: bool) -> StepAnswer
+        ensures { λ r. ⌜ r ≡ quietStep refusal flag self ⌝ }
+    {
+        let passed = Passed {
+            c64: false,
+            expansion: false,
+        };
+        StepAnswer {
+            refusal,
+            flag,
+            passed,
+            reu: self,
+        }
+    }
+
     // The answer of a call that lends neither bus nor storage: its value and the controller after it, unless the controller is refused.
     fn tested(self, value: u32, after: Reu) -> Answer
         ensures { λ r. ⌜ r ≡ call self (answered value after) ⌝ }
@@ -308,16 +337,20 @@ impl Reu {
         reu.answered(action.number())
     }
 
-    pub fn tick_dma(self, bus: &mut [u8], storage: &mut [u8], cycle: u64, ba_low: bool) -> Answer
+    pub fn tick_dma(
+        self,
+        bus: &mut [u8],
+        storage: &mut [u8],
+        cycle: u64,
+        ba_low: bool,
+    ) -> StepAnswer
         ensures { λ r. ⌜ (r, now (bus .exit), now (storage .exit)) ≡ tickCall self (now (bus .entry)) (now (storage .entry)) cycle «ba_low» ⌝ }
     {
         let refusal = self.refusal(bus.len(), storage.len());
         if refusal != ACCEPTED {
-            return self.refused(refusal);
+            return self.quiet_step(refusal, false);
         }
-        let out = self.tick(bus, storage, cycle, ba_low);
-        let reu = out.reu;
-        reu.answered(flag_number(out.flag))
+        self.tick(bus, storage, cycle, ba_low)
     }
 
     pub fn run_reu_cycle(
@@ -328,15 +361,28 @@ impl Reu {
         ba_high_phi1: bool,
         cycle: u64,
         ba_low: bool,
-    ) -> Answer
+    ) -> StepAnswer
         ensures { λ r. ⌜ (r, now (bus .exit), now (storage .exit)) ≡ cycleCall self (now (bus .entry)) (now (storage .entry)) «ba_high» «ba_high_phi1» cycle «ba_low» ⌝ }
     {
         let refusal = self.refusal(bus.len(), storage.len());
         if refusal != ACCEPTED {
-            return self.refused(refusal);
+            return self.quiet_step(refusal, false);
         }
-        let out = self.cycle(bus, storage, ba_high, ba_high_phi1, cycle, ba_low);
-        let reu = out.reu;
-        reu.answered(flag_number(out.flag))
+        self.cycle(bus, storage, ba_high, ba_high_phi1, cycle, ba_low)
+    }
+}
+
+impl StepAnswer {
+    // The answer with its value as a number.
+    pub fn numbered(self) -> Answer
+        ensures { λ r. ⌜ r ≡ numbered self ⌝ }
+    {
+        let passed = self.passed;
+        let reu = self.reu;
+        Answer {
+            refusal: self.refusal,
+            value: flag_number(self.flag) + passed.number(),
+            reu,
+        }
     }
 }

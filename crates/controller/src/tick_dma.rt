@@ -1,14 +1,15 @@
 // One granted cycle of a transfer. A tick sees the two bytes at the transfer's place, and says what it writes.
 ghost use mathlib.Core.Path.{_≡_};
-ghost use Rattle.controller.specs.TickDma.{advance, swapRead, swapWrite, tickByType, tickDma, tickOf, tickRecall, tickRefresh, tickRunning, tickStore, tickSwap, tickTail, tickVerify, withError, ticks};
-ghost use mathlib.Core.Bool.{false};
-use crate::reu::FlagAnswer;
+ghost use Rattle.controller.specs.TickDma.{advance, swapRead, swapWrite, tickByType, tickDma, tickOf, tickRecall, tickRefresh, tickRunning, tickStore, tickSwap, tickTail, tickVerify, quietTick, withError};
+use crate::constants::ACCEPTED;
 use crate::reu::Reu;
+use crate::reu::StepAnswer;
 use crate::reu::TickAnswer;
 use regs::STATUS_VERIFY_ERROR;
 use regs::marked;
 use transfer::Dma;
 use transfer::DmaState;
+use transfer::Passed;
 use transfer::Put;
 use transfer::Seen;
 use transfer::SwapPhase;
@@ -24,6 +25,7 @@ impl Reu {
         let swaps = kind.is(swap);
         let completed = d.complete_byte();
         let done = completed.done;
+        let passed = completed.passed;
         let next = completed.dma;
         let left = next.remaining;
         let shown = self.publish_live_counters(next);
@@ -31,6 +33,7 @@ impl Reu {
             let reu = shown.running(next.with_tail());
             return TickAnswer {
                 flag: true,
+                passed,
                 reu,
                 put,
             };
@@ -41,6 +44,7 @@ impl Reu {
             let reu = last.finish_dma(next, done);
             return TickAnswer {
                 flag: false,
+                passed,
                 reu,
                 put,
             };
@@ -48,7 +52,24 @@ impl Reu {
         let reu = shown.running(next);
         TickAnswer {
             flag: true,
+            passed,
             reu,
+            put,
+        }
+    }
+
+    // A tick that completes no byte, and so reports neither.
+    fn quiet_tick(self, flag: bool, put: Put) -> TickAnswer
+        ensures { λ r. ⌜ r ≡ quietTick flag self put ⌝ }
+    {
+        let passed = Passed {
+            c64: false,
+            expansion: false,
+        };
+        TickAnswer {
+            flag,
+            passed,
+            reu: self,
             put,
         }
     }
@@ -79,12 +100,7 @@ impl Reu {
     {
         let addr = d.reu_addr;
         let put = Put::Storage(addr, seen.bus);
-        let reu = self.running(d.latched(seen, cycle));
-        TickAnswer {
-            flag: true,
-            reu,
-            put,
-        }
+        self.running(d.latched(seen, cycle)).quiet_tick(true, put)
     }
 
     fn swap_write(self, d: DmaState, ba_low: bool) -> TickAnswer
@@ -138,12 +154,7 @@ impl Reu {
         next.read_clock_odd = cycle & 1 != 0;
         let mut open = self;
         open.swap_refresh = false;
-        let reu = open.running(next);
-        TickAnswer {
-            flag: true,
-            reu,
-            put,
-        }
+        open.running(next).quiet_tick(true, put)
     }
 
     fn tick_tail(self, d: DmaState, seen: Seen) -> TickAnswer
@@ -151,12 +162,7 @@ impl Reu {
     {
         let error = seen.bus != seen.storage;
         let put = Put::Nothing;
-        let reu = self.finish_dma(d, !error);
-        TickAnswer {
-            flag: false,
-            reu,
-            put,
-        }
+        self.finish_dma(d, !error).quiet_tick(false, put)
     }
 
     fn tick_by_type(
@@ -191,28 +197,18 @@ impl Reu {
         self.tick_by_type(kind, d, seen, cycle, ba_low)
     }
 
-    fn idle_tick(self) -> TickAnswer
-        ensures { λ r. ⌜ r ≡ ticks false self Put.Nothing ⌝ }
-    {
-        let put = Put::Nothing;
-        TickAnswer {
-            flag: false,
-            reu: self,
-            put,
-        }
-    }
-
     fn tick_of(self, dma: Dma, seen: Seen, cycle: u64, ba_low: bool) -> TickAnswer
         ensures { λ r. ⌜ r ≡ tickOf dma self seen cycle «ba_low» ⌝ }
     {
+        let put = Put::Nothing;
         match dma {
-            Dma::Idle => self.idle_tick(),
+            Dma::Idle => self.quiet_tick(false, put),
             Dma::Running(d) => {
                 if self.attached {
                     self.tick_running(d, seen, cycle, ba_low)
                 } else {
                     let idle = Dma::Idle;
-                    self.with_dma(idle).idle_tick()
+                    self.with_dma(idle).quiet_tick(false, put)
                 }
             }
         }
@@ -225,18 +221,21 @@ impl Reu {
         storage: &mut [u8],
         cycle: u64,
         ba_low: bool,
-    ) -> FlagAnswer
+    ) -> StepAnswer
         ensures { λ r. ⌜ (r, now (bus .exit), now (storage .exit)) ≡ tickDma self (now (bus .entry)) (now (storage .entry)) cycle «ba_low» ⌝ }
     {
         let dma = self.dma;
         let seen = dma.seen(bus, storage);
         let ticked = self.tick_of(dma, seen, cycle, ba_low);
         let put = ticked.put;
+        let passed = ticked.passed;
         let reu = ticked.reu;
         put.to_bus(bus);
         put.to_storage(storage);
-        FlagAnswer {
+        StepAnswer {
+            refusal: ACCEPTED,
             flag: ticked.flag,
+            passed,
             reu,
         }
     }

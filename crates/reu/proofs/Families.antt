@@ -7,6 +7,9 @@ use mir.Syntax.{w8}
 use mir.Val.{Fits}
 use Rattle.controller.specs.declared.reu.Answer.{Answer}
 use Rattle.controller.specs.declared.reu.Reu.{Reu}
+use Rattle.controller.specs.declared.reu.StepAnswer.{StepAnswer}
+use Rattle.controller.specs.TickDma.{Ticked}
+use Rattle.controller.specs.Calls.{numbered}
 use Rattle.controller.specs.Refusals.{checked}
 use Rattle.controller.proofs.Checked.{done, not-done}
 use Rattle.image.specs.declared.Opened.{Opened}
@@ -41,7 +44,7 @@ module _ (i : List ℕ) (o : Opened) (e : o ≡ openImage i) where
     storage-refused s f =
         not-done (o .refusal) _ number (λ n. (refusal n, i, s)) (x, i, s) _ bad (ap (λ (n : ℕ). (n, i, s)) h)
 
-    pub both-refused : (m s : List ℕ) (f : Reu → List ℕ → List ℕ → (Answer × List ℕ × List ℕ)) → (x, i, m, s) ≡ changeBoth f i m s
+    pub both-refused : (m s : List ℕ) (f : Reu → List ℕ → List ℕ → Ticked) → (x, i, m, s) ≡ changeBoth f i m s
     unfolding changeBoth
     both-refused m s f =
         not-done (o .refusal) _ number (λ n. (refusal n, i, m, s)) (x, i, m, s) _ bad (ap (λ (n : ℕ). (n, i, m, s)) h)
@@ -74,10 +77,11 @@ module _ (i : List ℕ) (o : Opened) (e : o ≡ openImage i) where
         (ap (λ (y : ℕ × List ℕ). (y .0, y .1, t)) hx ∙ ap (λ (b : Answer × List ℕ). changedStorage b i) ha
         ∙ ap (λ (y : Opened). changedStorage (f (y .reu) s) i) e)
 
-    pub both-done : (m s : List ℕ) (f : Reu → List ℕ → List ℕ → (Answer × List ℕ × List ℕ)) (a : Answer) (b t : List ℕ) (r : ℕ) (j : List ℕ)
-        → (a, b, t) ≡ f (o .reu) m s → (r, j) ≡ changed a i → (r, j, b, t) ≡ changeBoth f i m s
+    -- n is the answer with its value as a number
+    pub both-done : (m s : List ℕ) (f : Reu → List ℕ → List ℕ → Ticked) (a : StepAnswer) (b t : List ℕ) (n : Answer) (r : ℕ) (j : List ℕ)
+        → (a, b, t) ≡ f (o .reu) m s → n ≡ numbered a → (r, j) ≡ changed n i → (r, j, b, t) ≡ changeBoth f i m s
     unfolding changeBoth
-    both-done m s f a b t r j ha hx =
+    both-done m s f a b t n r j ha hn hx =
         done (o .refusal) _ number (λ n. (refusal n, i, m, s)) (r, j, b, t) _ good
-        (ap (λ (y : ℕ × List ℕ). (y .0, y .1, b, t)) hx ∙ ap (λ (y : Answer × List ℕ × List ℕ). changedBoth y i) ha
+        (ap (λ (y : ℕ × List ℕ). (y .0, y .1, b, t)) (hx ∙ ap (λ (y : Answer). changed y i) hn) ∙ ap (λ (y : Ticked). changedBoth y i) ha
         ∙ ap (λ (y : Opened). changedBoth (f (y .reu) m s) i) e)

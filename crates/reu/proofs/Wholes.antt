@@ -1,7 +1,7 @@
 -- What each call on a sound controller answers: a refusal carries value 0, and the controller that is left can be stored.
 use Prim.Native.Nat.{ℕ, _<_}
-use mathlib.Core.Bool.{Bool}
-use mathlib.Core.Path.{refl}
+use mathlib.Core.Bool.{Bool, false}
+use mathlib.Core.Path.{_≡_, refl}
 use mathlib.Core.List.{List}
 use lib.Dec.{eqb}
 use Rattle.controller.specs.declared.reu.Answer.{Answer}
@@ -11,9 +11,10 @@ use Rattle.controller.specs.Refusals.{checked}
 use Rattle.controller.specs.Registers.{readRegister, writeRegister}
 use Rattle.controller.specs.StartDma.{triggerFf00}
 use Rattle.controller.specs.BusAction.{busAction, cpuReadyAfterDma}
-use Rattle.controller.specs.TickDma.{tickDma}
+use Rattle.controller.specs.TickDma.{Ticked, quietStep, tickDma}
 use Rattle.controller.specs.Cycle.{runReuCycle}
-use Rattle.controller.specs.Calls.{answered, refused, resetCall, setEnabledCall, storagePresentCall, capacityBytesCall, triggerCall, readCall, writeCall, dmaActiveCall, busActionCall, cpuReadyCall, debugRegisterCall, c64AccessCall, tickCall, cycleCall}
+use Rattle.controller.specs.Calls.{numbered, answered, refused, resetCall, setEnabledCall, storagePresentCall, capacityBytesCall, triggerCall, readCall, writeCall, dmaActiveCall, busActionCall, cpuReadyCall, debugRegisterCall, c64AccessCall, tickCall, cycleCall}
+use Rattle.controller.proofs.Checked.{tick-accepted, cycle-accepted}
 use Rattle.transfer.proofs.Pick.{by-test}
 use Rattle.image.specs.Valid.{Bytes}
 use Rattle.image.proofs.Sound.{Sound}
@@ -41,10 +42,11 @@ module _ (u : Reu) (s : Sound u) where
       → Whole (checked {A = Answer × List ℕ} n (λ k. (refused u k, t)) (answered v w, l) .0)
   with-storage n v w t l h = tested (λ (x : Answer × List ℕ). x .0) n (λ k. (refused u k, t)) (answered v w, l) not-done (done v w h)
 
-  with-both : (n v : ℕ) (w : Reu) (m t b l : List ℕ) → Sound w
-      → Whole (checked {A = Answer × List ℕ × List ℕ} n (λ k. (refused u k, m, t)) (answered v w, b, l) .0)
-  with-both n v w m t b l h =
-      tested (λ (x : Answer × List ℕ × List ℕ). x .0) n (λ k. (refused u k, m, t)) (answered v w, b, l) not-done (done v w h)
+  with-both : (n : ℕ) (x : Ticked) (m t : List ℕ) → x .0 .refusal ≡ 0 → Sound (x .0 .reu)
+      → Whole (numbered (checked {A = Ticked} n (λ k. (quietStep k false u, m, t)) x .0))
+  with-both n x m t z h =
+      tested (λ (y : Ticked). numbered (y .0)) n (λ k. (quietStep k false u, m, t)) x not-done
+      record { carried = record { value = λ ne. absurd (ne z) }; well = sound-well (x .0 .reu) h }
 
   -- ---- a look
 
@@ -105,11 +107,11 @@ module _ (u : Reu) (s : Sound u) where
       state : SoundState Bytes Bytes u m t
       state = record { sound = s; bus = bm; storage = bt }
 
-      pub tick-whole : (n : ℕ) (low : Bool) → Whole (tickCall u m t n low .0)
+      pub tick-whole : (n : ℕ) (low : Bool) → Whole (numbered (tickCall u m t n low .0))
       unfolding tickCall
-      tick-whole n low = with-both _ _ (tickDma u m t n low .0 .reu) _ _ _ _ (sound-tick-dma Bytes Bytes bytes-memory bytes-memory u m t state n low .sound)
+      tick-whole n low = with-both _ (tickDma u m t n low) _ _ (tick-accepted u m t n low) (sound-tick-dma Bytes Bytes bytes-memory bytes-memory u m t state n low .sound)
 
-      pub cycle-whole : (high phi1 : Bool) (n : ℕ) (low : Bool) → Whole (cycleCall u m t high phi1 n low .0)
+      pub cycle-whole : (high phi1 : Bool) (n : ℕ) (low : Bool) → Whole (numbered (cycleCall u m t high phi1 n low .0))
       unfolding cycleCall
       cycle-whole high phi1 n low =
-          with-both _ _ (runReuCycle u m t high phi1 n low .0 .reu) _ _ _ _ (sound-cycle Bytes Bytes bytes-memory bytes-memory u m t state high phi1 n low .sound)
+          with-both _ (runReuCycle u m t high phi1 n low) _ _ (cycle-accepted u m t high phi1 n low) (sound-cycle Bytes Bytes bytes-memory bytes-memory u m t state high phi1 n low .sound)

@@ -4,7 +4,8 @@ use Rattle.controller.specs.declared.reu.Answer.{Answer}
 use Rattle.controller.specs.declared.reu.Reu.{Reu}
 use Rattle.controller.specs.Enable.{newReu}
 use Rattle.controller.specs.Refusals.{checked}
-use Rattle.controller.specs.Calls.{resetCall, setEnabledCall, storagePresentCall, capacityBytesCall, triggerCall, readCall, writeCall, dmaActiveCall, busActionCall, cpuReadyCall, debugRegisterCall, c64AccessCall, tickCall, cycleCall}
+use Rattle.controller.specs.TickDma.{Ticked}
+use Rattle.controller.specs.Calls.{numbered, resetCall, setEnabledCall, storagePresentCall, capacityBytesCall, triggerCall, readCall, writeCall, dmaActiveCall, busActionCall, cpuReadyCall, debugRegisterCall, c64AccessCall, tickCall, cycleCall}
 use Rattle.image.specs.Layout.{imageSize, packImage}
 use Rattle.image.specs.Open.{openImage}
 
@@ -33,8 +34,8 @@ changed a i = (code a, imageAfter a i)
 abbrev pub changedStorage : (Answer × List ℕ) → List ℕ → (ℕ × List ℕ × List ℕ)
 changedStorage x i = (code (x .0), imageAfter (x .0) i, x .1)
 
-abbrev pub changedBoth : (Answer × List ℕ × List ℕ) → List ℕ → (ℕ × List ℕ × List ℕ × List ℕ)
-changedBoth x i = (code (x .0), imageAfter (x .0) i, x .1, x .2)
+abbrev pub changedBoth : Ticked → List ℕ → (ℕ × List ℕ × List ℕ × List ℕ)
+changedBoth x i = (code (numbered (x .0)), imageAfter (numbered (x .0)) i, x .1, x .2)
 
 -- it looks at the controller; it changes it; it lends the storage too; it lends bus and storage too
 unfoldable pub look : (Reu → Answer) → List ℕ → ℕ
@@ -48,7 +49,7 @@ changeStorage f i s =
     checked (openImage i .refusal) (λ n. (refusal n, i, s)) (changedStorage (f (openImage i .reu) s) i)
 
 unfoldable pub changeBoth :
-    (Reu → List ℕ → List ℕ → (Answer × List ℕ × List ℕ)) → List ℕ → List ℕ → List ℕ → (ℕ × List ℕ × List ℕ × List ℕ)
+    (Reu → List ℕ → List ℕ → Ticked) → List ℕ → List ℕ → List ℕ → (ℕ × List ℕ × List ℕ × List ℕ)
 changeBoth f i m s =
     checked (openImage i .refusal) (λ n. (refusal n, i, m, s)) (changedBoth (f (openImage i .reu) m s) i)
 

@@ -233,7 +233,7 @@ pub extern "C" fn reu_tick_dma(
     }
     let reu = opened.reu;
     let answer = reu.tick_dma(bus, storage, cycle, ba_low != 0);
-    finish(image, answer)
+    finish(image, answer.numbered())
 }
 
 #[no_mangle]
@@ -262,5 +262,5 @@ pub extern "C" fn reu_run_reu_cycle(
         cycle,
         ba_low != 0,
     );
-    finish(image, answer)
+    finish(image, answer.numbered())
 }

@@ -1,7 +1,7 @@
 -- A bit by its mask and by its digit: the code tests a mask, and an image's byte is a sum of digits.
 use mathlib.Core.Bool.{Bool, true, false, not}
 use mathlib.Core.Path.{_≡_, refl, sym, ap, _∙_}
-use Prim.Native.Nat.{ℕ, zero, suc, _+_, _*_, _/_, _%_, _^_, _<_}
+use Prim.Native.Nat.{ℕ, zero, suc, _+_, _*_, _/_, _%_, _^_, _≤_, _<_}
 use native.Mathlib.Nat.{mod-lt, one-mul, zero-mul}
 use native.Mathlib.Omega.{arith}
 use lib.Pow.{pow-pos, high-ones}
@@ -46,3 +46,7 @@ bit-zero v n e =
 
 pub zero-bit : (v n : ℕ) → v / 2 ^ n % 2 ≡ 0 → bit v n ≡ false
 zero-bit v n e = bit-div v n ∙ ne-eqb (v / 2 ^ n % 2) 1 (λ o. omega arith)
+
+pub bit-most : (b : Bool) → bitOf b ≤ 1
+bit-most true = omega arith
+bit-most false = omega arith

@@ -1,7 +1,7 @@
 -- The transfer record: its parts, completing a byte, and when it is refused.
-use Rattle.transfer.specs.Prelude.{ℕ, _-_, Bool, true, false, not, _&&_, _||_, cond, List, [], _∷_, eqb, leb, ltb, C64Address, ExpansionAddress, Seen, TransferType, Store, Recall, Swap, Verify, SwapPhase, ReadC64, WriteC64, DmaState, Dma, Idle, Running, Completed}
+use Rattle.transfer.specs.Prelude.{ℕ, _+_, _-_, _*_, Bool, true, false, not, _&&_, _||_, cond, List, [], _∷_, eqb, leb, ltb, C64Address, ExpansionAddress, Seen, TransferType, Store, Recall, Swap, Verify, SwapPhase, ReadC64, WriteC64, DmaState, Dma, Idle, Running, Passed, Completed}
 use Rattle.transfer.specs.Constants.{expansionLimit, fullLength}
-use Rattle.transfer.specs.Bytes.{bit, keepBits}
+use Rattle.transfer.specs.Bytes.{bit, bitOf, keepBits}
 use Rattle.transfer.specs.Memory.{nextC64, nextExp, seenAt}
 
 -- ---- a transfer with some fields replaced. There is no record update, so a maker has a place for each field
@@ -93,8 +93,25 @@ moved d =
     (cond (eqb (d .remaining) 1) (d .remaining) (d .remaining - 1)) (d .«fix_c64») (d .«fix_reu») (d .autoload)
     (d .latch) false (d .«read_clock_odd») (d .«verify_tail»)
 
+-- L2: "whether the C64 address passed $FFFF and whether the expansion address passed $FFFFFF". "A fixed address never reports its own"
+abbrev pub passed : DmaState → Passed
+passed d =
+    record {
+      c64 = not (d .«fix_c64») && eqb (d .«c64_addr» .0) 0xFFFF;
+      expansion = not (d .«fix_reu») && eqb (d .«reu_addr» .0) 0xFFFFFF;
+    }
+
+-- what is reported where no byte is completed
+abbrev pub neither : Passed
+neither = record { c64 = false; expansion = false }
+
+-- "plus 2 and plus 4"
+abbrev pub passedNumber : Passed → ℕ
+passedNumber p = 2 * bitOf (p .c64) + 4 * bitOf (p .expansion)
+
+-- "Completing a byte must also report .."
 unfoldable pub completeByte : DmaState → Completed
-completeByte d = record { done = eqb (d .remaining) 1; dma = moved d }
+completeByte d = record { done = eqb (d .remaining) 1; passed = passed d; dma = moved d }
 
 -- a recall's byte: the storage's, or it "repeats its latch for the second byte"
 abbrev pub recalled : DmaState → Bool → Seen → ℕ

@@ -20,6 +20,7 @@ pub use Rattle.transfer.specs.declared.dma.SwapPhase.the-variants.{ReadC
 pub use Rattle.transfer.specs.declared.dma.DmaState.{DmaState}
 pub use Rattle.transfer.specs.declared.dma.Dma.{Dma}
 pub use Rattle.transfer.specs.declared.dma.Dma.the-variants.{Idle, Running}
+pub use Rattle.transfer.specs.declared.dma.Passed.{Passed}
 pub use Rattle.transfer.specs.declared.dma.Completed.{Completed}
 pub use Rattle.transfer.specs.declared.timing.ReuC64Access.{ReuC64Access}
 pub use Rattle.transfer.specs.declared.timing.ReuC64Access.the-variants.{None, Read, Write}

@@ -4,6 +4,11 @@ pub(crate) const COMMAND_TRANSFER_TYPE_MASK: u8 = 0x03;
 
 pub const FULL_64K_TRANSFER_LENGTH: u32 = 65_536;
 
+// The addresses from which a step goes to 0.
+pub(crate) const LAST_C64_ADDRESS: u16 = 0xFFFF;
+
+pub(crate) const LAST_EXPANSION_ADDRESS: u32 = 0x00FF_FFFF;
+
 // The first number that is no expansion address.
 pub const EXPANSION_ADDRESS_LIMIT: u32 = 0x0100_0000;
 

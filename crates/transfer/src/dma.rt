@@ -3,10 +3,12 @@ ghost use mathlib.Core.Path.{_≡_};
 ghost use mathlib.Core.Bool.{cond, true};
 ghost use Prim.Native.Nat.{_-_};
 ghost use lib.Dec.{eqb};
-ghost use Rattle.transfer.specs.Dma.{active, completeByte, firstByte, isType, isWritePhase, lastByte, latched, recalled, seenBy, typeNumber, typeOf, wellDma, wellTransfer, withPhase, withTail};
+ghost use Rattle.transfer.specs.Dma.{active, completeByte, firstByte, isType, isWritePhase, lastByte, latched, passedNumber, recalled, seenBy, typeNumber, typeOf, wellDma, wellTransfer, withPhase, withTail};
 use crate::constants::COMMAND_TRANSFER_TYPE_MASK;
 use crate::constants::EXPANSION_ADDRESS_LIMIT;
 use crate::constants::FULL_64K_TRANSFER_LENGTH;
+use crate::constants::LAST_C64_ADDRESS;
+use crate::constants::LAST_EXPANSION_ADDRESS;
 use crate::memory::C64Address;
 use crate::memory::ExpansionAddress;
 use crate::memory::Seen;
@@ -46,9 +48,16 @@ pub enum Dma {
     Running(DmaState),
 }
 
-// What completing a byte answers: whether it was the last, and the transfer after it.
+// Which address ran over its top in a byte that was completed: the C64's from $FFFF to 0, the expansion's from $FFFFFF to 0.
+pub struct Passed {
+    pub c64: bool,
+    pub expansion: bool,
+}
+
+// What completing a byte answers: whether it was the last, which address ran over its top, and the transfer after it.
 pub struct Completed {
     pub done: bool,
+    pub passed: Passed,
     pub dma: DmaState,
 }
 
@@ -138,6 +147,18 @@ impl Dma {
     }
 }
 
+impl Passed {
+    // What the two add to the value of a tick or a cycle.
+    pub fn number(self) -> u32
+        ensures { λ r. ⌜ r ≡ passedNumber self ⌝ }
+    {
+        if self.c64 {
+            return if self.expansion { 6 } else { 2 };
+        }
+        if self.expansion { 4 } else { 0 }
+    }
+}
+
 // The last byte leaves the length at 1; 0 is never held.
 fn left_after(remaining: u32) -> u32
     ensures { λ r. ⌜ r ≡ cond (eqb remaining 1) remaining (remaining - 1) ⌝ }
@@ -160,6 +181,10 @@ impl DmaState {
         let c64_addr = c64.step(self.fix_c64);
         let reu_addr = reu.step(self.fix_reu);
         let remaining = left_after(self.remaining);
+        let passed = Passed {
+            c64: !self.fix_c64 & (c64.0 == LAST_C64_ADDRESS),
+            expansion: !self.fix_reu & (reu.0 == LAST_EXPANSION_ADDRESS),
+        };
         let swap_phase = SwapPhase::ReadC64;
         let dma = DmaState {
             transfer_type,
@@ -177,6 +202,7 @@ impl DmaState {
         };
         Completed {
             done: self.remaining == 1,
+            passed,
             dma,
         }
     }

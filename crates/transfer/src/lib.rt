@@ -12,6 +12,7 @@ pub use constants::FULL_64K_TRANSFER_LENGTH;
 pub use dma::Completed;
 pub use dma::Dma;
 pub use dma::DmaState;
+pub use dma::Passed;
 pub use dma::SwapPhase;
 pub use dma::TransferType;
 pub use memory::C64Address;

@@ -1,12 +1,10 @@
-use mathlib.Core.Path.{sym, ap, subst}
-use mathlib.Core.List.{List}
-use Prim.Native.Nat.{ℕ}
-use Rattle.controller.specs.Calls.{tickCall}
+use mathlib.Core.Path.{sym, ap, subst, _∙_}
+use Rattle.controller.specs.Calls.{numbered, tickCall}
 use Rattle.reu.specs.Exports.{flag}
 use Rattle.reu.proofs.Families.{both-refused, both-done, long, sound, bytes-of}
 use Rattle.reu.proofs.Wholes.{tick-whole}
 use Rattle.reu.specs.Inner.{Whole}
-use Rattle.controller.specs.declared.reu.Answer.{Answer}
+use Rattle.controller.specs.TickDma.{Ticked}
 use borrow.Author.Needs.{needs}
 use Rattle.reu.proofs.reu_tick_dma.Statement.{statement}
 use Rattle.reu.proofs.reu_tick_dma.Tie as tie
@@ -22,34 +20,36 @@ returns c =
 
 finish-requires : tie.Need-finish-requires
 finish-requires c κs =
-    let its-tick-dma = c .before .before .before .before .before .tick-dma in
-    let its-if1 = c .before .before .before .before .before .before .before .before .before .if1 in
-    let its-open = c .before .before .before .before .before .before .before .before .before .before .«open» in
-    let its-args = c .before .before .before .before .before .before .before .before .before .before .before .before .before .before .before .args in
-    let image-bytes = bytes-of (its-args .image .now) (c .before .before .before .before .before .before .before .before .before .before .before .before .before .before .slice-known .given) in
-    let bus-bytes = bytes-of (its-args .bus .now) (c .before .before .before .before .before .before .before .before .before .before .before .before .before .slice-known2 .given) in
-    let storage-bytes = bytes-of (its-args .storage .now) (c .before .before .before .before .before .before .before .before .before .before .before .before .slice-known3 .given) in
+    let its-numbered = c .numbered in
+    let its-tick-dma = c .before .before .before .before .before .before .tick-dma in
+    let its-if1 = c .before .before .before .before .before .before .before .before .before .before .if1 in
+    let its-open = c .before .before .before .before .before .before .before .before .before .before .before .«open» in
+    let its-args = c .before .before .before .before .before .before .before .before .before .before .before .before .before .before .before .before .args in
+    let image-bytes = bytes-of (its-args .image .now) (c .before .before .before .before .before .before .before .before .before .before .before .before .before .before .before .slice-known .given) in
+    let bus-bytes = bytes-of (its-args .bus .now) (c .before .before .before .before .before .before .before .before .before .before .before .before .before .before .slice-known2 .given) in
+    let storage-bytes = bytes-of (its-args .storage .now) (c .before .before .before .before .before .before .before .before .before .before .before .before .before .slice-known3 .given) in
     let its-sound = sound (its-args .image .now) (its-open .result) (its-open .ensures) (its-if1 .left) image-bytes in
     record {
       whole =
-          subst Whole (sym (ap (λ (x : Answer × List ℕ × List ℕ). x .0) (its-tick-dma .ensures)))
+          subst Whole (sym (its-numbered .ensures ∙ ap (λ (x : Ticked). numbered (x .0)) (its-tick-dma .ensures)))
           (tick-whole (its-open .result .reu) its-sound (its-args .storage .now) storage-bytes (its-args .bus .now) bus-bytes (its-args .cycle) (flag (its-args .ba-low)));
       long = long (its-args .image .now) (its-open .result) (its-open .ensures) (its-if1 .left);
     }
 
 returns-2 : tie.Need-returns-2
 returns-2 c =
+    let its-numbered = c .before .before .before .numbered in
     let its-finish = c .before .before .finish in
-    let its-tick-dma = c .before .before .before .before .before .before .before .before .tick-dma in
-    let its-if1 = c .before .before .before .before .before .before .before .before .before .before .before .before .if1 in
-    let its-open = c .before .before .before .before .before .before .before .before .before .before .before .before .before .«open» in
-    let its-args = c .before .before .before .before .before .before .before .before .before .before .before .before .before .before .before .before .before .before .args in
+    let its-tick-dma = c .before .before .before .before .before .before .before .before .before .tick-dma in
+    let its-if1 = c .before .before .before .before .before .before .before .before .before .before .before .before .before .if1 in
+    let its-open = c .before .before .before .before .before .before .before .before .before .before .before .before .before .before .«open» in
+    let its-args = c .before .before .before .before .before .before .before .before .before .before .before .before .before .before .before .before .before .before .before .args in
     both-done (its-args .image .now) (its-open .result) (its-open .ensures) (its-if1 .left) (its-args .bus .now)
-    (its-args .storage .now) (λ u b t. tickCall u b t (its-args .cycle) (flag (its-args .ba-low))) _ _ _ _ _
-    (its-tick-dma .ensures) (its-finish .ensures)
+    (its-args .storage .now) (λ u b t. tickCall u b t (its-args .cycle) (flag (its-args .ba-low))) _ _ _ _ _ _
+    (its-tick-dma .ensures) (its-numbered .ensures) (its-finish .ensures)
 
 pub reu-tick-dma-spec : {M : Type 1} → statement M
 reu-tick-dma-spec =
     tie.close
     (tie.spec (λ c κs. search needs) (λ c κs. search needs) (λ c. search needs) returns (λ c κs. search needs)
-    finish-requires (λ c. search needs) (λ c. search needs) (λ c. search needs) returns-2)
+    (λ c κs. search needs) finish-requires (λ c. search needs) (λ c. search needs) (λ c. search needs) returns-2)

@@ -5,8 +5,8 @@ use Rattle.controller.proofs.reu.Reu.swap_read.Tie as tie
 
 returns : tie.Need-returns
 unfolding swapRead
-returns c = rw (c .running .ensures, c .before .latched .ensures)
+returns c = rw (c .quiet-tick .ensures, c .before .running .ensures, c .before .before .latched .ensures)
 
 pub swap-read-spec : {M : Type 1} → statement M
 swap-read-spec =
-    tie.close (tie.spec (λ c κs. search needs) (λ c κs. search needs) returns)
+    tie.close (tie.spec (λ c κs. search needs) (λ c κs. search needs) (λ c κs. search needs) returns)

@@ -1,6 +1,6 @@
-use Rattle.controller.specs.Prelude.{Answer}
+use Rattle.controller.specs.Prelude.{StepAnswer}
 use mathlib.Core.Path.{ap}
-use Rattle.controller.specs.Calls.{tickCall, tickedAnswer}
+use Rattle.controller.specs.Calls.{tickCall}
 use Rattle.controller.proofs.Checked.{done, not-done}
 use borrow.Author.Needs.{needs}
 use Rattle.controller.proofs.reu.Reu.tick_dma.Statement.{statement}
@@ -12,19 +12,19 @@ returns c =
     let its-if1 = c .before .if1 in
     let its-refusal = c .before .before .refusal in
     let its-args = c .before .before .before .before .before .args in
-    not-done _ _ (its-refusal .ensures) _ _ _ (its-if1 .taken) (ap (λ (y : Answer). (y, its-args .bus .now, its-args .storage .now)) (c .refused .ensures))
+    not-done _ _ (its-refusal .ensures) _ _ _ (its-if1 .taken)
+    (ap (λ (y : StepAnswer). (y, its-args .bus .now, its-args .storage .now)) (c .quiet-step .ensures))
 
 returns-2 : tie.Need-returns-2
 unfolding tickCall
 returns-2 c =
-    let its-flag-number = c .before .flag-number in
-    let its-tick = c .before .before .before .before .before .before .before .tick in
-    let its-if1 = c .before .before .before .before .before .before .before .before .before .before .if1 in
-    let its-refusal = c .before .before .before .before .before .before .before .before .before .before .before .refusal in
-    done _ _ (its-refusal .ensures) _ _ _ (its-if1 .left) (rw (c .answered .ensures, its-flag-number .ensures) (ap tickedAnswer (its-tick .ensures)))
+    let its-tick = c .before .before .before .before .tick in
+    let its-if1 = c .before .before .before .before .before .before .before .if1 in
+    let its-refusal = c .before .before .before .before .before .before .before .before .refusal in
+    done _ _ (its-refusal .ensures) _ _ _ (its-if1 .left) (its-tick .ensures)
 
 pub tick-dma-spec : {M : Type 1} → statement M
 tick-dma-spec =
     tie.close
-    (tie.spec (λ c κs. search needs) (λ c κs. search needs) returns (λ c κs. search needs)
-    (λ c κs. search needs) (λ c κs. search needs) (λ c. search needs) (λ c. search needs) returns-2)
+    (tie.spec (λ c κs. search needs) (λ c κs. search needs) returns (λ c κs. search needs) (λ c. search needs)
+    (λ c. search needs) returns-2)

@@ -8,7 +8,7 @@ returns : tie.Need-returns
 unfolding tickOf
 returns c =
     let its-enum-told = c .before .enum-told in
-    rw (its-enum-told .given .1) (c .idle-tick .ensures)
+    rw (its-enum-told .given .1) (c .quiet-tick .ensures)
 
 returns-2 : tie.Need-returns-2
 unfolding tickOf
@@ -23,7 +23,7 @@ returns-3 c =
     let its-with-dma = c .before .with-dma in
     let its-if1 = c .before .before .if1 in
     let its-dma = c .before .before .before .before .dma in
-    rw (its-dma .given .1) (unless _ (its-if1 .left) (rw (c .idle-tick2 .ensures, its-with-dma .ensures)))
+    rw (its-dma .given .1) (unless _ (its-if1 .left) (rw (c .quiet-tick2 .ensures, its-with-dma .ensures)))
 
 pub tick-of-spec : {M : Type 1} → statement M
 tick-of-spec =
