@@ -11,11 +11,12 @@ use lib.Dec.{eqb, ltb}
 use borrow.Author.Tests.{eq-eqb, eqb-true, eqb-false, lt-ltb, ltb-true}
 use Rattle.controller.specs.declared.reu.Answer.{Answer}
 use Rattle.controller.specs.declared.reu.Reu.{Reu}
-use Rattle.transfer.specs.Bytes.{bitOf}
 use Rattle.controller.specs.Enable.{newReu}
 use Rattle.transfer.specs.Constants.{busSize, storageSize}
 use Rattle.controller.specs.Refusals.{wellFormed, firstRefusal, refusalOf, checked}
-use Rattle.controller.specs.Calls.{answered, refused, call, callStorage, callBoth, resetCall, setEnabledCall, storagePresentCall, capacityBytesCall, triggerCall, readCall, writeCall, dmaActiveCall, busActionCall, cpuReadyCall, debugRegisterCall, c64AccessCall, tickCall, cycleCall}
+use Rattle.controller.specs.TickDma.{Ticked, quietStep}
+use Rattle.controller.proofs.Checked.{tick-accepted, cycle-accepted}
+use Rattle.controller.specs.Calls.{stepNumber, answered, refused, call, callStorage, callBoth, resetCall, setEnabledCall, storagePresentCall, capacityBytesCall, triggerCall, readCall, writeCall, dmaActiveCall, busActionCall, cpuReadyCall, debugRegisterCall, c64AccessCall, tickCall, cycleCall}
 use Rattle.image.specs.declared.Opened.{Opened}
 use Rattle.image.specs.Layout.{imageSize, packImage}
 use Rattle.image.specs.Open.{openImage}
@@ -24,7 +25,7 @@ use Rattle.reu.specs.Exports.{flag, refusalUnit, refusal, code, imageAfter, loo
 use Rattle.claims.specs.Calls.{Other, new, reset, setEnabled, storagePresent, capacityBytes, triggerFf00, dmaActive, busAction, cpuReady, debugRegister, c64Access, tickDma, Kind, read, write, cycle, other, Done, looked, onImage, onStorage, onBoth, doesOther, does, accepts}
 use Rattle.image.proofs.Sound.{Sound}
 use Rattle.image.proofs.Valid.{sound-well, sound-typed}
-use Rattle.claims.proofs.States.{St, held, on, Act, looks, changes, stores, moves, otherAct, act, valueBy, leftBy, numberBy, valueOf, stepOf, numberOf, Ready}
+use Rattle.claims.proofs.States.{St, held, on, Act, looks, changes, stores, moves, ticks, otherAct, act, valueBy, leftBy, numberBy, valueOf, stepOf, numberOf, Ready}
 
 -- ---- the number by the lengths
 
@@ -101,12 +102,14 @@ module _ (x : St) (sound : Sound (x .u)) where
       ∙ ap (λ (a : Answer × List ℕ). onStorage (held x) (changedStorage a (packImage (x .u)))) e
       ∙ alike (λ (a : Answer × List ℕ). onStorage (held x) (changedStorage a (packImage (x .u)))) (refusalOf (x .u) busSize (length (x .s))) (λ k. (refused (x .u) k, x .s)) (answered v w, t) _ (λ k. refl) refl
 
-  moves-is : (f : Reu → List ℕ → List ℕ → Whole) (v : ℕ) (w : Reu) (b t : List ℕ) → f (x .u) (x .m) (x .s) ≡ callBoth (x .u) (x .m) (x .s) (answered v w, b, t)
-      → onBoth (changeBoth f (packImage (x .u)) (x .m) (x .s)) ≡ testedBy (moves v w b t)
+  moves-is : (f : Reu → List ℕ → List ℕ → Ticked) (y : Ticked) → y .0 .refusal ≡ 0 → f (x .u) (x .m) (x .s) ≡ callBoth (x .u) (x .m) (x .s) y
+      → onBoth (changeBoth f (packImage (x .u)) (x .m) (x .s)) ≡ testedBy (ticks y)
   unfolding changeBoth checked
-  moves-is f v w b t e =
+  moves-is f y z e =
       ap (λ (o : Opened). onBoth (checked (o .refusal) (λ n. (refusal n, packImage (x .u), x .m, x .s)) (changedBoth (f (o .reu) (x .m) (x .s)) (packImage (x .u))))) opened
-      ∙ ap (λ (a : Whole). onBoth (changedBoth a (packImage (x .u)))) e
+      ∙ ap (λ (a : Ticked). onBoth (changedBoth a (packImage (x .u)))) e
+      ∙ alike (λ (a : Ticked). onBoth (changedBoth a (packImage (x .u)))) (refusalOf (x .u) (length (x .m)) (length (x .s))) (λ k. (quietStep k false (x .u), x .m, x .s)) y _ (λ k. refl)
+      (ap (λ (n : ℕ). through (record { refusal = n; value = stepNumber (y .0 .flag) (y .0 .passed); reu = y .0 .reu }, y .1, y .2)) z)
 
   -- what is tested for 0
   done : (a : Act) → numberBy x a ≡ 0 → testedBy a ≡ record { answer = valueBy a; left = held (leftBy x a) }
@@ -138,13 +141,13 @@ module _ (x : St) (sound : Sound (x .u)) where
   other-is (cpuReady h) = changes-is (λ w. cpuReadyCall w (flag h)) _ _ refl
   other-is (debugRegister i) = looks-is (λ w. debugRegisterCall w i) _ refl
   other-is c64Access = looks-is c64AccessCall _ refl
-  other-is (tickDma n l) = moves-is (λ w b t. tickCall w b t n (flag l)) _ _ _ _ refl
+  other-is (tickDma n l) = moves-is (λ w b t. tickCall w b t n (flag l)) _ (tick-accepted (x .u) (x .m) (x .s) n (flag l)) refl
 
   tested-is : (k : Kind) → does k (held x) ≡ testedBy (act k x)
   unfolding readCall writeCall cycleCall
   tested-is (read a) = changes-is (λ w. readCall w a) _ _ refl
   tested-is (write a v) = changes-is (λ w. writeCall w a v) _ _ refl
-  tested-is (cycle h n l p) = moves-is (λ w b t. cycleCall w b t (flag h) (flag p) n (flag l)) _ _ _ _ refl
+  tested-is (cycle h n l p) = moves-is (λ w b t. cycleCall w b t (flag h) (flag p) n (flag l)) _ (cycle-accepted (x .u) (x .m) (x .s) (flag h) (flag p) n (flag l)) refl
   tested-is (other o) = other-is o
 
   -- ---- accepted
@@ -184,7 +187,3 @@ ready-number x r k = go (act k x)
     go (changes v w) = zero-number (x .u) (r .sound) _ _ refl refl
     go (stores v w t) = zero-number (x .u) (r .sound) _ _ refl (r .storage .size)
     go (moves v w b t) = zero-number (x .u) (r .sound) _ _ (r .bus .size) (r .storage .size)
-
-pub bit-small : (b : Bool) → bitOf b < refusalUnit
-bit-small true = omega arith
-bit-small false = omega arith

@@ -24,7 +24,7 @@ use Rattle.controller.specs.Reu.{reuOf, reg, withRelease, withRepeat, withDelay
 use Rattle.transfer.specs.Memory.{putStorage}
 use Rattle.controller.specs.Timing.{c64Access}
 use Rattle.transfer.specs.Timing.{actionForCycle}
-use Rattle.transfer.specs.Dma.{moved}
+use Rattle.transfer.specs.Dma.{moved, neither}
 use Rattle.regs.specs.FinishDma.{irqDue, counters, finishedStatus, finished, autoloaded}
 use Rattle.controller.specs.FinishDma.{publishLiveCounters, finishDma, updateIrq}
 use Rattle.controller.specs.BusAction.{busAction, nextAction, granted, decide, fall, plain, repeated}
@@ -287,7 +287,7 @@ pub record IdleStep (u : Reu) (m s : List ℕ) (t : Ticked) : Type 0 where
 -- other flags, another delay, another count of granted cycles, and no transfer
 still : {answer waiting was repeat terminal late refresh release : Bool} {delay count : ℕ} (u : Reu) (m s : List ℕ)
     → IdleStep u m s (
-      ticked answer
+      ticked answer neither
           (reuOf (u .regs) (u .«shadow_c64_addr») (u .«shadow_reu_addr») (u .«shadow_len») (u .enabled) (u .«irq_pending») (u .attached) waiting was repeat terminal late
           refresh release delay Idle count),
       m,

@@ -13,3 +13,4 @@ pub mod SomeRuns
 pub mod SwapTwice
 pub mod Sessions
 pub mod GrantedCycles
+pub mod PassedTop

@@ -29,7 +29,8 @@ use Rattle.claims.proofs.RegisterLaw.{Value, Seven, two, three, four, f
 use Rattle.image.proofs.SoundCalls.{sound-fresh}
 use Rattle.image.proofs.Valid.{sound-bytes, sound-well, sound-typed}
 use Rattle.claims.proofs.States.{St, held, on, stepOf, valueOf, Ready, ready-step}
-use Rattle.claims.proofs.Accepted.{leaves-is, is-accepted, ready-number, bit-small}
+use Rattle.claims.proofs.Accepted.{leaves-is, is-accepted, ready-number}
+use Rattle.controller.proofs.Checked.{step-most}
 use Rattle.claims.proofs.Walk.{widen, written-at, next-is}
 use Rattle.claims.proofs.Look.{present-byte, debug-value, Idling, opened, opened-ready, opened-is, opened-idling}
 use Rattle.claims.proofs.Swap.{Allowed, idle-high, granted-bit, len-of, SwapFrom, over-from, ended-from, granted-from, step-from, begins}
@@ -123,7 +124,7 @@ high-cycle = cycle 1 0 0 1
 plain-cycle : (x : St) → Plain x high-cycle
 plain-cycle x =
     record {
-      small = bit-small (runReuCycle (x .u) (x .m) (x .s) true true 0 false .0 .flag);
+      small = let r = runReuCycle (x .u) (x .m) (x .s) true true 0 false .0 in omega (arith, step-most (r .flag) (r .passed));
       numbers = (omega arith, omega arith, omega arith, omega arith);
       high = (omega arith, omega arith);
       kind = cycles;

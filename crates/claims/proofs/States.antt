@@ -17,7 +17,7 @@ use Rattle.controller.specs.Enable.{newReu, resetReu, setEnabled as core-setEna
 use Rattle.controller.specs.BusAction.{busAction as core-busAction, cpuReadyAfterDma}
 use Rattle.controller.specs.TickDma.{Ticked, tickDma as core-tickDma}
 use Rattle.controller.specs.Cycle.{runReuCycle}
-use Rattle.controller.specs.Calls.{capacity}
+use Rattle.controller.specs.Calls.{capacity, stepNumber}
 use Rattle.transfer.specs.Timing.{actionNumber, accessNumber}
 use Rattle.image.specs.Layout.{packImage}
 use Rattle.image.specs.Valid.{Bytes}
@@ -68,7 +68,7 @@ pub data Act : Type 0 where
   moves : ℕ → Reu → List ℕ → List ℕ → Act
 
 abbrev pub ticks : Ticked → Act
-ticks t = moves (bitOf (t .0 .flag)) (t .0 .reu) (t .1) (t .2)
+ticks t = moves (stepNumber (t .0 .flag) (t .0 .passed)) (t .0 .reu) (t .1) (t .2)
 
 abbrev pub otherAct : Other → St → Act
 otherAct new x = changes 0 newReu

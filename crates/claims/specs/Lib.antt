@@ -4,3 +4,4 @@ pub mod SwapTwice
 pub mod SavedMachine
 pub mod Sessions
 pub mod GrantedCycles
+pub mod PassedTop

@@ -1,5 +1,6 @@
 // The claims about whole runs of the exported calls. Each function does nothing: its `ensures` is the claim.
 ghost use Rattle.claims.specs.GrantedCycles.{GrantedCycles};
+ghost use Rattle.claims.specs.PassedTop.{PassedTop};
 ghost use Rattle.claims.specs.SavedMachine.{EveryStateOpens, RoundTrips};
 ghost use Rattle.claims.specs.Sessions.{Sessions};
 ghost use Rattle.claims.specs.SwapTwice.{SwapTwice};
@@ -28,4 +29,9 @@ pub fn recorded_sessions()
 // The count of granted cycles in the image is the number of cycle calls that were granted since the last new, reset or start with storage.
 pub fn granted_cycles()
     ensures { λ r. ⌜ GrantedCycles ⌝ }
+{}
+
+// Of bytes completed one after another, as many as there are addresses or fewer, exactly one reports that the address passed its top, if it did.
+pub fn passed_top()
+    ensures { λ r. ⌜ PassedTop ⌝ }
 {}
