@@ -131,13 +131,14 @@ abbrev pub grantRow : (high phi1 : ℕ) → ℕ → ℕ → List ℕ → List �
 grantRow high phi1 n v i m s = tickRow n v m (reuBusAction i s high phi1 n)
 
 -- the place is the first cycle's number. Bits 0 and 1 of the operation are `ba_high` and `ba_high_phi1`. Below 40 the value
--- says how many cycles, and bit 2 what each answers; from 40 on it is one cycle, and the value is its grant
+-- says how many cycles, and bit 2 what each answers; from 40 on it is one cycle, and the value is its grant, from 44 on its answer
 unfoldable pub cyclesRow : ℕ → ℕ → ℕ → List ℕ → List ℕ → List ℕ → Played
 cyclesRow operation a v i m s =
     let high : ℕ = bitOf (bit operation 0) in
     let phi1 : ℕ = bitOf (bit operation 1) in
     cond (ltb operation 40) (playCycles high phi1 (bitOf (bit operation 2)) v a (true, i, m, s))
-    (cond (ltb operation 44) (grantRow high phi1 a v i m s) (false, i, m, s))
+    (cond (ltb operation 44) (grantRow high phi1 a v i m s)
+    (cond (ltb operation 48) (cycleRow high phi1 v a i m s) (false, i, m, s)))
 
 -- ---- any row
 

@@ -3,12 +3,27 @@ use crate::operations;
 ghost use mathlib.Core.Path.{_≡_};
 ghost use mathlib.Core.Bool.{true};
 ghost use Prim.Native.Nat.{_-_};
-ghost use Rattle.script.specs.Operations.{cyclesRow, grantRow, playCycles};
+ghost use Rattle.script.specs.Operations.{cycleRow, cyclesRow, grantRow, playCycles};
 
 const TRANSFER: u32 = crate::TRANSFER as u32;
 
 // An answer below this is no refusal.
 const REFUSAL_UNIT: u32 = 16_777_216;
+
+// One cycle: it answers as it should.
+fn answered(
+    cycle: u64,
+    answer: u32,
+    ba_high: u32,
+    ba_high_phi1: u32,
+    image: &mut [u8],
+    bus: &mut [u8],
+    storage: &mut [u8],
+) -> bool
+    ensures { λ r. ⌜ (r, now (image .exit), now (bus .exit), now (storage .exit)) ≡ cycleRow «ba_high» «ba_high_phi1» answer cycle (now (image .entry)) (now (bus .entry)) (now (storage .entry)) ⌝ }
+{
+    reu::reu_run_reu_cycle(image, bus, storage, ba_high, cycle, 0, ba_high_phi1) == answer
+}
 
 // The cycles from the first up to the last, which is left out: each answers as it should.
 fn ticks(
@@ -25,9 +40,7 @@ fn ticks(
 {
     let mut agree = true;
     for cycle in first..last {
-        agree = agree
-            & (reu::reu_run_reu_cycle(image, bus, storage, ba_high, cycle, 0, ba_high_phi1)
-                == answer);
+        agree = agree & answered(cycle, answer, ba_high, ba_high_phi1, image, bus, storage);
     }
     agree
 }
@@ -82,6 +95,9 @@ pub(crate) fn on_cycles(
     // Two bits are inputs.
     if operation < operations::GRANTS + 4 {
         return granted(first, value, ba_high, ba_high_phi1, image, bus, storage);
+    }
+    if operation < operations::ANSWERS + 4 {
+        return answered(first, value, ba_high, ba_high_phi1, image, bus, storage);
     }
     false
 }

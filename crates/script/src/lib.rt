@@ -121,6 +121,9 @@ const CYCLES: u64 = operations::CYCLES * OPERATION;
 // One cycle in two calls: `bus_action` answers the value, and `tick_dma` follows on Transfer.
 const GRANTS: u64 = operations::GRANTS * OPERATION;
 
+// One cycle: it answers the value, with what L2 adds to it.
+const ANSWERS: u64 = operations::ANSWERS * OPERATION;
+
 // The inputs, and what each cycle answers.
 const BA_HIGH: u64 = operations::BA_HIGH * OPERATION;
 
@@ -135,6 +138,8 @@ pub const TICKS_BA_LOW: u64 = CYCLES + TRUE + BA_HIGH_PHI1;
 pub const TICKS_PHI1_LOW: u64 = CYCLES + TRUE + BA_HIGH;
 
 pub const IDLE: u64 = CYCLES + BA_HIGH + BA_HIGH_PHI1;
+
+pub const TICK_ANSWERS: u64 = ANSWERS + BA_HIGH + BA_HIGH_PHI1;
 
 pub const GRANT: u64 = GRANTS + BA_HIGH + BA_HIGH_PHI1;
 

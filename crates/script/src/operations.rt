@@ -39,6 +39,8 @@ pub const CYCLES: u64 = 32;
 
 pub const GRANTS: u64 = 40;
 
+pub const ANSWERS: u64 = 44;
+
 pub const BA_HIGH: u64 = 1;
 
 pub const BA_HIGH_PHI1: u64 = 2;

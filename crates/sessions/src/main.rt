@@ -5,7 +5,7 @@ use script::*;
 // A row is an operation plus a place times `AT` plus a value; crate script says what each operation does.
 // Unless said: new, enabled, BA high, registers written, then cycle calls, here named ticks.
 // STATUS is looked at by `debug_register` save in R1 and R12.
-const SESSIONS: [u64; 219] = [
+const SESSIONS: [u64; 220] = [
     // R1* New, registers 0-10 read: $10 10 00 00 00 00 F8 FF FF 1F 3F.
     CASE + 1 * AT,
     NEW,
@@ -191,6 +191,7 @@ const SESSIONS: [u64; 219] = [
     WRITE + 0xDF02 * AT + 0,
     C64_IS + 0x1000,
     // R14* Store length 2 from $FFFF to $FFFFFF: offsets 524,287 and 0; C64 $0001, bank latch $00.
+    // L2: the first tick passes both tops.
     CASE + 14 * AT,
     BUS + 0xFFFF * AT + 7,
     BUS + 0x0000 * AT + 8,
@@ -198,13 +199,14 @@ const SESSIONS: [u64; 219] = [
     EXPANSION + 0xFF_FFFF,
     LENGTH + 2,
     COMMAND + 0x90,
-    TICKS + 2,
+    TICK_ANSWERS + 0 * AT + 7,
+    TICKS + 1 * AT + 1,
     STORAGE_IS + 524287 * AT + 7,
     STORAGE_IS + 0 * AT + 8,
     C64_IS + 0x0001,
     BANK_IS + 0x00,
     // R15 Store length 0: after one tick the length reads $FFFF; 65,536 ticks.
-    // The command runs in each of them, and in no further one.
+    // The command runs in each of them, and in no further one. L2: the last one passes $FFFF.
     CASE + 15 * AT,
     LENGTH + 0,
     COMMAND + 0x90,
@@ -214,7 +216,7 @@ const SESSIONS: [u64; 219] = [
     TICKS + 65534,
     COMMAND_IS + 0x90,
     STATUS_IS + 0x10,
-    TICKS + 1,
+    TICK_ANSWERS + 65535 * AT + 3,
     COMMAND_IS + 0x10,
     STATUS_IS + 0x50,
     IDLE + 1,

@@ -2,7 +2,6 @@ use mathlib.Core.Path.{_≡_, refl, sym, _∙_}
 use mathlib.Core.Bool.{true}
 use Prim.Native.Nat.{_-_}
 use native.Mathlib.Omega.{arith}
-use lib.Dec.{eqb}
 use lib.ListN.{length}
 use Rattle.script.specs.Operations.{playCycles}
 use Rattle.script.proofs.Runs.{tick, ticked}
@@ -21,13 +20,10 @@ abbrev μ-loop : tie.MeasureT-loop
 
 loop-again : tie.Need-loop-again Inv-loop μ-loop
 loop-again c =
-    let its-args = c .before .before .before .before .before .before .before .before .before .before .before .before .before .before .before .args in
     let its-loop = c .before .before .before .before .before .before .before .before .before .before .before .loop in
     let its-loop-test = c .before .before .before .before .before .before .before .before .before .before .loop-test in
-    let its-reu-run-reu-cycle = c .before .before .before .before .before .before .reu-run-reu-cycle in
-    let its-cycle = its-reu-run-reu-cycle .ensures in
-    let more = tick _ _ _ (its-loop .cycle) _ _ _ (its-loop-test .taken)
-    (λ j. (eqb (its-cycle j .0) (its-args .answer), its-cycle j .1, its-cycle j .2, its-cycle j .3)) in
+    let its-answered = c .before .before .before .before .before .before .answered in
+    let more = tick _ _ _ (its-loop .cycle) _ _ _ (its-loop-test .taken) (its-answered .ensures) in
     (its-loop .inv .0 ∙ more, search needs, search needs, search needs)
 
 returns : tie.Need-returns Inv-loop μ-loop
