@@ -1,6 +1,6 @@
 /*
- * A test host in C: a store, a swap, a start by FF00, and a saved machine that is written to a file and opened again.
- * It checks every result, says what it did, and answers 0 if all was as expected.
+ * A test host in C: a store, a swap, a start by FF00, a block over the top of the memory, and a saved machine that is
+ * written to a file and opened again. It checks every result, says what it did, and answers 0 if all was as expected.
  *
  *   cc -Iinclude examples/host.c target/staticlib/libreu.a -o host && ./host
  *
@@ -90,7 +90,7 @@ static void command(struct machine *m, unsigned c64, unsigned long expansion, un
     write_register(m, REU_COMMAND, value);
 }
 
-/* One bus cycle with BA high. Answers 1 if the controller had it. */
+/* One bus cycle with BA high. Answers 1 if the controller had it, and the marks of an address that passed its top. */
 static uint32_t run_cycle(struct machine *m) {
     return accepted("run_reu_cycle", reu_run_reu_cycle(m->image, REU_IMAGE_SIZE, m->bus, REU_BUS_SIZE, m->storage,
                                                        REU_STORAGE_SIZE, 1, m->cycle++, 0, 1));
@@ -99,7 +99,7 @@ static uint32_t run_cycle(struct machine *m) {
 /* Cycles until the CPU has the bus again, but at most 100. Answers how many the controller had. */
 static unsigned run_to_end(struct machine *m) {
     unsigned cycles = 0;
-    while (cycles < 100 && run_cycle(m)) {
+    while (cycles < 100 && (run_cycle(m) & 1) != 0) {
         cycles++;
     }
     return cycles;
@@ -153,6 +153,18 @@ static void start_by_ff00(struct machine *m) {
     expect("cycles", cycles, 5);
     expect("bus differs", memcmp(m->bus + 0x3000, "WORLD", 5) != 0, 0);
     printf("  %u cycles, bus holds %.5s\n", cycles, (const char *)(m->bus + 0x3000));
+}
+
+/* The third of five bytes is at $FFFF, the fourth at 0: the cycle of the third says so. */
+static void over_the_top(struct machine *m) {
+    printf("over the top: a recall of 5 bytes to $FFFD\n");
+    command(m, 0xFFFD, 0x010000, 5, REU_RECALL | REU_COMMAND_FF00_DISABLE | REU_COMMAND_EXECUTE);
+    for (uint32_t i = 0; i < 5; i++) {
+        expect("cycle", run_cycle(m), i == 2 ? 1 + REU_PASSED_C64 : 1);
+    }
+    expect("bytes below differ", memcmp(m->bus + 0xFFFD, "WOR", 3) != 0, 0);
+    expect("bytes from 0 on differ", memcmp(m->bus, "LD", 2) != 0, 0);
+    printf("  the third of 5 cycles says that the C64 address passed $FFFF\n");
 }
 
 static int machine_equal(const struct machine *a, const struct machine *b) {
@@ -233,6 +245,7 @@ int main(int argc, char **argv) {
     store(&m);
     swap(&m);
     start_by_ff00(&m);
+    over_the_top(&m);
     save_and_open(&m, argc > 1 ? argv[1] : "machine.reu");
     refusals(&m);
     machine_free(&m);

@@ -1,9 +1,10 @@
 /*
  * reu.h: the MOS 8726 RAM expansion controller (REU) with 512 KiB, bus cycle by bus cycle.
  *
- * The library is a port of the controller of the Breadbin466 emulator (MIT licence, see NOTICE) and answers as it does:
- * that is shown by comparison runs. That each call answers and leaves what a written definition says is proved, of the
- * source on the language's abstract machine (the compiler's back end is not covered).
+ * The library is a port of the controller of the Breadbin466 emulator (MIT licence, see NOTICE) and answers as it does,
+ * but for two marks (see AN ADDRESS THAT PASSES ITS TOP): that is shown by comparison runs. That each call answers and
+ * leaves what a written definition says is proved, of the source on the language's abstract machine (the compiler's
+ * back end is not covered).
  * It allocates nothing and keeps nothing between calls: everything stands in three buffers of the host.
  *
  *   image    REU_IMAGE_SIZE bytes  the whole controller: registers, flags, the running transfer and a count
@@ -54,6 +55,15 @@
  * call, not arming, not the end of a command, not a start without storage. reu_granted_cycles() reads it from an image;
  * no register shows it. The original has no such count.
  *
+ * AN ADDRESS THAT PASSES ITS TOP
+ * So that a host can mark it, reu_tick_dma() and reu_run_reu_cycle() report it with their values: REU_PASSED_C64 more
+ * if the call completed a byte with which the C64 address stepped from $FFFF to 0, REU_PASSED_EXPANSION more if the
+ * expansion address stepped from $FFFFFF to 0. Every byte that is completed reports, also the last of a block, one that
+ * differs in a verify, and one that a recall repeats. A fixed address does not step and never reports. A call that
+ * completes no byte reports neither: the first tick of a swap's byte, a refresh, a verify tail, Hold, a cycle of the
+ * CPU, a tick without a transfer, a refused call. That the storage begins anew each 524,288 bytes is not reported.
+ * Bit 0 is what the original answers, which has no such marks: a host tests reu_value(answer) & 1, and not == 1.
+ *
  * LEFT TO THE HOST
  * Address map, VIC and cartridges, and the enabled flag: no call obeys it. A host passes register accesses on only
  * while the controller is enabled.
@@ -68,7 +78,7 @@
 extern "C" {
 #endif
 
-#define REU_VERSION "0.2.0"
+#define REU_VERSION "0.3.0"
 
 /* Lengths of the buffers; REU_IMAGE_SIZE stands behind the image's places. */
 #define REU_BUS_SIZE 65536
@@ -85,6 +95,10 @@ extern "C" {
 #define REU_GRANT_CPU 0
 #define REU_GRANT_HOLD 1
 #define REU_GRANT_TRANSFER 2
+
+/* Marks: what is added to the value of reu_tick_dma() and reu_run_reu_cycle(). */
+#define REU_PASSED_C64 2
+#define REU_PASSED_EXPANSION 4
 
 /* Kinds of access: the value of reu_c64_access(), divided by 65,536. */
 #define REU_ACCESS_NONE 0
@@ -285,7 +299,8 @@ uint32_t reu_trigger_ff00(uint8_t *image, size_t image_len);
  * Runs one bus cycle: decides as reu_bus_action() and, on Transfer, does what reu_tick_dma() does and adds one to the
  * count of granted cycles, also where the grant comes of a terminal write or a delay and no transfer is running. The
  * count stays at 4,294,967,295. Neither Hold nor Cpu is counted, and neither of the two calls counts by itself.
- * Answers 0 if the CPU has this cycle, 1 if the controller keeps the CPU from it (Hold or Transfer).
+ * Answers 0 if the CPU has this cycle, 1 if the controller keeps the CPU from it (Hold or Transfer), plus the marks of
+ * a byte that the tick completed.
  * A host calls it once in each cycle. Refuses 1, 2, 3, 4.
  */
 uint32_t reu_run_reu_cycle(uint8_t *image, size_t image_len, uint8_t *bus, size_t bus_len, uint8_t *storage,
@@ -324,7 +339,8 @@ uint32_t reu_bus_action(uint8_t *image, size_t image_len, uint8_t *storage, size
  *   of the storage's byte, and clears recall repeat.
  * - The end of the block sets bit 6 of STATUS. A command that ends clears bit 7 of COMMAND and sets its bit 4, restores
  *   addresses and length from the shadows if it started with Autoload, and raises the interrupt if the mask lets it.
- * Answers 1 if a transfer is running afterwards, else 0. Refuses 1, 2, 3, 4.
+ * Answers 1 if a transfer is running afterwards, else 0, plus the marks of a byte that it completed: REU_PASSED_C64 and
+ * REU_PASSED_EXPANSION, where that address passed its top. Refuses 1, 2, 3, 4.
  */
 uint32_t reu_tick_dma(uint8_t *image, size_t image_len, uint8_t *bus, size_t bus_len, uint8_t *storage,
                       size_t storage_len, uint64_t cycle, uint32_t ba_low);

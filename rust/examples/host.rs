@@ -1,4 +1,5 @@
-//! A test host in Rust: a store, a swap, a start by FF00, and a saved machine that is written to a file and opened again.
+//! A test host in Rust: a store, a swap, a start by FF00, a block over the top of the memory, and a saved machine that is
+//! written to a file and opened again.
 //! It checks every result and says what it did.
 //!
 //!     cargo run --example host
@@ -27,15 +28,15 @@ impl Host {
         self.machine.write(0xDF00 + COMMAND, command);
     }
 
-    /// One bus cycle with BA high. Answers whether the controller had it.
-    fn run_cycle(&mut self) -> bool {
+    /// One bus cycle with BA high. Answers whether the controller had it, and which address passed its top.
+    fn run_cycle(&mut self) -> Step {
         self.cycle += 1;
         self.machine.run_reu_cycle(true, self.cycle, false, true)
     }
 
     /// Cycles until the CPU has the bus again, but at most 100. Answers how many the controller had.
     fn run_to_end(&mut self) -> usize {
-        (0..100).take_while(|_| self.run_cycle()).count()
+        (0..100).take_while(|_| self.run_cycle().busy).count()
     }
 }
 
@@ -74,9 +75,18 @@ fn start_by_ff00(host: &mut Host) {
     println!("FF00: no cycle before the access to $FF00, 5 after it, the bus holds WORLD");
 }
 
+/// The third of five bytes is at $FFFF, the fourth at 0: the cycle of the third says so.
+fn over_the_top(host: &mut Host) {
+    host.command(0xFFFD, 0x01_0000, 5, RECALL | AT_ONCE);
+    let marks = [(); 5].map(|()| host.run_cycle().passed_c64);
+    assert_eq!(marks, [false, false, true, false, false]);
+    assert_eq!((&host.machine.bus()[0xFFFD..], &host.machine.bus()[..2]), (&b"WOR"[..], &b"LD"[..]));
+    println!("over the top: the third of 5 cycles says that the C64 address passed $FFFF");
+}
+
 fn save_and_open(host: &mut Host, path: &str) -> Result<(), Box<dyn Error>> {
     host.command(0x2000, 0x01_0000, 5, SWAP | AT_ONCE);
-    assert!((0..3).all(|_| host.run_cycle()));
+    assert!((0..3).all(|_| host.run_cycle().busy));
     let machine = &host.machine;
     fs::write(path, [&machine.image()[..], machine.bus(), machine.storage()].concat())?;
     let saved = fs::read(path)?;
@@ -101,6 +111,7 @@ fn main() -> Result<(), Box<dyn Error>> {
     store(&mut host);
     swap(&mut host);
     start_by_ff00(&mut host);
+    over_the_top(&mut host);
     save_and_open(&mut host, &path)?;
     println!("all as expected");
     Ok(())

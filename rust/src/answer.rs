@@ -65,6 +65,21 @@ pub enum Access {
     Write(u16),
 }
 
+/// What a tick or a cycle answers.
+///
+/// The marks are of the byte that the call completed, the last of a block, one that differs in a verify and one that a
+/// recall repeats too. A fixed address never has its own. A call that completes no byte has neither: the first tick of a
+/// swap's byte, a refresh, a verify tail, [`Grant::Hold`], [`Grant::Cpu`], a tick without a transfer.
+#[derive(Clone, Copy, Debug, PartialEq, Eq)]
+pub struct Step {
+    /// Of a tick: a transfer is running afterwards. Of a cycle: the controller keeps the CPU from it.
+    pub busy: bool,
+    /// The C64 address stepped from $FFFF to 0.
+    pub passed_c64: bool,
+    /// The expansion address stepped from $FFFFFF to 0.
+    pub passed_expansion: bool,
+}
+
 /// Takes an answer apart: 16,777,216 times the refusal, plus the value.
 pub(crate) fn split(answer: u32) -> Result<u32, Refusal> {
     match answer >> 24 {
@@ -84,6 +99,10 @@ pub(crate) fn grant(value: u32) -> Grant {
         GRANT_TRANSFER => Grant::Transfer,
         other => unreachable!("the library has no grant {other}"),
     }
+}
+
+pub(crate) fn step(value: u32) -> Step {
+    Step { busy: value & 1 != 0, passed_c64: value & PASSED_C64 != 0, passed_expansion: value & PASSED_EXPANSION != 0 }
 }
 
 pub(crate) fn access(value: u32) -> Access {

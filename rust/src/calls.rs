@@ -16,7 +16,7 @@
 //! # Ok::<(), Refusal>(())
 //! ```
 
-use crate::answer::{Access, Grant, Refusal, access, grant, split};
+use crate::answer::{Access, Grant, Refusal, Step, access, grant, split, step};
 use crate::raw;
 
 /// What a call answers: its value, or why it was refused.
@@ -111,8 +111,9 @@ pub fn c64_access(image: &[u8]) -> Answer<Access> {
     split(unsafe { raw::reu_c64_access(image.as_ptr(), image.len()) }).map(access)
 }
 
-/// Advances the transfer by one granted cycle. Answers whether one is running afterwards.
-pub fn tick_dma(image: &mut [u8], bus: &mut [u8], storage: &mut [u8], cycle: u64, ba_low: bool) -> Answer<bool> {
+/// Advances the transfer by one granted cycle. Answers whether one is running afterwards, and which address
+/// passed its top.
+pub fn tick_dma(image: &mut [u8], bus: &mut [u8], storage: &mut [u8], cycle: u64, ba_low: bool) -> Answer<Step> {
     split(unsafe {
         raw::reu_tick_dma(
             image.as_mut_ptr(),
@@ -125,10 +126,10 @@ pub fn tick_dma(image: &mut [u8], bus: &mut [u8], storage: &mut [u8], cycle: u64
             ba_low.into(),
         )
     })
-    .map(|value| value != 0)
+    .map(step)
 }
 
-/// Runs one bus cycle. Answers whether the controller keeps the CPU from it.
+/// Runs one bus cycle. Answers whether the controller keeps the CPU from it, and which address passed its top.
 pub fn run_reu_cycle(
     image: &mut [u8],
     bus: &mut [u8],
@@ -137,7 +138,7 @@ pub fn run_reu_cycle(
     cycle: u64,
     ba_low: bool,
     ba_high_phi1: bool,
-) -> Answer<bool> {
+) -> Answer<Step> {
     split(unsafe {
         raw::reu_run_reu_cycle(
             image.as_mut_ptr(),
@@ -152,5 +153,5 @@ pub fn run_reu_cycle(
             ba_high_phi1.into(),
         )
     })
-    .map(|value| value != 0)
+    .map(step)
 }

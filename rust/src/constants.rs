@@ -29,6 +29,13 @@ pub const GRANT_HOLD: u32 = 1;
 /// The transfer has the cycle, if one is running; the CPU is held in any case.
 pub const GRANT_TRANSFER: u32 = 2;
 
+// Marks: what is added to the value of `tick_dma` and `run_reu_cycle`.
+
+/// A byte was completed with which the C64 address stepped from $FFFF to 0.
+pub const PASSED_C64: u32 = 2;
+/// A byte was completed with which the expansion address stepped from $FFFFFF to 0.
+pub const PASSED_EXPANSION: u32 = 4;
+
 // Kinds of access: the value of `c64_access`, divided by 65,536.
 
 /// No transfer is running.

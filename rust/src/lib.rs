@@ -20,10 +20,10 @@
 //! machine.write(0xDF08, 0);
 //! machine.write(0xDF01, STORE | COMMAND_FF00_DISABLE | COMMAND_EXECUTE);
 //!
-//! assert!(machine.run_reu_cycle(true, 0, false, true)); // the controller has this cycle
+//! assert!(machine.run_reu_cycle(true, 0, false, true).busy); // the controller has this cycle
 //! assert_eq!(machine.storage()[0], 0xA5);
 //! assert_eq!(machine.read(0xDF00), 0x50); // end of block
-//! assert!(!machine.run_reu_cycle(true, 1, false, true)); // the CPU has the next
+//! assert!(!machine.run_reu_cycle(true, 1, false, true).busy); // the CPU has the next
 //! ```
 
 mod answer;
@@ -32,6 +32,6 @@ mod constants;
 mod machine;
 pub mod raw;
 
-pub use answer::{Access, Grant, Refusal};
+pub use answer::{Access, Grant, Refusal, Step};
 pub use constants::*;
 pub use machine::Machine;

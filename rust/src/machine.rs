@@ -1,6 +1,6 @@
 //! A machine: image, bus and storage together.
 
-use crate::answer::{Access, Grant, Refusal};
+use crate::answer::{Access, Grant, Refusal, Step};
 use crate::calls::{self, Answer};
 use crate::constants::*;
 
@@ -122,7 +122,7 @@ impl Machine {
     /// machine.write(0xDF01, reu::SWAP | reu::COMMAND_FF00_DISABLE | reu::COMMAND_EXECUTE);
     /// machine.run_reu_cycle(true, 0, false, false); // BA is low: held
     /// assert_eq!(machine.granted_cycles(), 0);
-    /// let cycles = (1..100).take_while(|cycle| machine.run_reu_cycle(true, *cycle, false, true));
+    /// let cycles = (1..100).take_while(|cycle| machine.run_reu_cycle(true, *cycle, false, true).busy);
     /// assert_eq!(cycles.count(), 4);
     /// assert_eq!(machine.granted_cycles(), 4); // the end leaves it to be looked at
     /// ```
@@ -224,15 +224,29 @@ impl Machine {
     }
 
     /// Advances the transfer by one granted cycle, the second half of [`Machine::run_reu_cycle`].
-    /// Answers whether one is running afterwards.
-    pub fn tick_dma(&mut self, cycle: u64, ba_low: bool) -> bool {
+    /// Answers whether one is running afterwards, and which address passed its top.
+    pub fn tick_dma(&mut self, cycle: u64, ba_low: bool) -> Step {
         accepted(calls::tick_dma(&mut self.image, &mut self.bus, &mut self.storage, cycle, ba_low))
     }
 
-    /// Runs one bus cycle. Answers whether the controller keeps the CPU from it.
+    /// Runs one bus cycle. Answers whether the controller keeps the CPU from it, and which address passed its top.
     ///
     /// Of `cycle` only whether it is odd matters, and `ba_low` only in the cycle that ends a swap.
-    pub fn run_reu_cycle(&mut self, ba_high: bool, cycle: u64, ba_low: bool, ba_high_phi1: bool) -> bool {
+    ///
+    /// ```
+    /// use reu::Step;
+    ///
+    /// let mut machine = reu::Machine::new();
+    /// machine.set_enabled(true);
+    /// for (register, value) in [(2, 0xFF), (3, 0xFF), (7, 2), (8, 0)] {
+    ///     machine.write(0xDF00 + register, value); // two bytes, from $FFFF
+    /// }
+    /// machine.write(0xDF01, reu::STORE | reu::COMMAND_FF00_DISABLE | reu::COMMAND_EXECUTE);
+    /// let over = Step { busy: true, passed_c64: true, passed_expansion: false };
+    /// assert_eq!(machine.run_reu_cycle(true, 0, false, true), over); // the next byte is at 0
+    /// assert_eq!(machine.run_reu_cycle(true, 1, false, true), Step { passed_c64: false, ..over });
+    /// ```
+    pub fn run_reu_cycle(&mut self, ba_high: bool, cycle: u64, ba_low: bool, ba_high_phi1: bool) -> Step {
         accepted(calls::run_reu_cycle(
             &mut self.image,
             &mut self.bus,

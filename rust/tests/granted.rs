@@ -23,7 +23,7 @@ fn started(length: u8, transfer_type: u8) -> Machine {
 
 /// One cycle in which BA is high or low all the time. Answers whether the CPU was kept from it.
 fn cycle(machine: &mut Machine, ba_high: bool) -> bool {
-    machine.run_reu_cycle(ba_high, 0, !ba_high, ba_high)
+    machine.run_reu_cycle(ba_high, 0, !ba_high, ba_high).busy
 }
 
 /// A machine whose image is this one's with another count.
@@ -70,7 +70,7 @@ fn a_direct_tick_and_a_direct_grant_add_nothing() {
     assert!(cycle(&mut machine, true));
     for tick in 0..2 {
         assert_eq!(machine.bus_action(true, true, 0), Grant::Transfer);
-        assert_eq!(machine.tick_dma(0, false), tick == 0);
+        assert_eq!(machine.tick_dma(0, false).busy, tick == 0);
     }
     assert_eq!(machine.granted_cycles(), 1);
 }
@@ -80,7 +80,7 @@ fn ended_by_ticks(length: u8) -> Machine {
     let mut machine = started(length, SWAP);
     assert!((0..2).all(|_| cycle(&mut machine, true)));
     machine.bus_action(true, false, 0);
-    assert_eq!((1..100).find(|_| !machine.tick_dma(0, false)), Some(2 * i32::from(length) - 2));
+    assert_eq!((1..100).find(|_| !machine.tick_dma(0, false).busy), Some(2 * i32::from(length) - 2));
     assert_eq!(machine.granted_cycles(), 2);
     machine
 }

@@ -51,9 +51,9 @@ fn reset_and_disabling_drop_the_transfer() {
 fn access_follows_the_swap() {
     let mut machine = swapping();
     assert_eq!(machine.c64_access(), Access::Read(0x1000));
-    assert!(machine.tick_dma(0, false));
+    assert!(machine.tick_dma(0, false).busy);
     assert_eq!(machine.c64_access(), Access::Write(0x1000));
-    assert!(!machine.tick_dma(1, false));
+    assert!(!machine.tick_dma(1, false).busy);
     assert_eq!(machine.c64_access(), Access::None);
     assert_eq!((machine.bus()[0x1000], machine.storage()[0]), (0x22, 0x11));
 }
@@ -65,8 +65,8 @@ fn a_swap_releases_the_cpu_once() {
         let mut machine = swapping();
         for cycle in 0..2 {
             match by_cycles {
-                true => assert!(machine.run_reu_cycle(true, cycle, ba_low, true)),
-                false => assert_eq!(machine.tick_dma(cycle, ba_low), cycle == 0),
+                true => assert!(machine.run_reu_cycle(true, cycle, ba_low, true).busy),
+                false => assert_eq!(machine.tick_dma(cycle, ba_low).busy, cycle == 0),
             }
         }
         let ready = [false, false, true].map(|ba_high| machine.cpu_ready_after_dma(ba_high));
@@ -79,9 +79,9 @@ fn ended_by_ticks(length: u8, fall: Grant, ticks: u64) -> Machine {
     let mut machine = swapping();
     machine.write(0xDF07, length);
     machine.write(0xDF01, 0x92);
-    assert!((0..2).all(|cycle| machine.run_reu_cycle(true, cycle, false, true)));
+    assert!((0..2).all(|cycle| machine.run_reu_cycle(true, cycle, false, true).busy));
     assert_eq!(machine.bus_action(true, false, 2), fall);
-    (0..ticks).for_each(|tick| assert_eq!(machine.tick_dma(3 + tick, false), tick + 1 < ticks));
+    (0..ticks).for_each(|tick| assert_eq!(machine.tick_dma(3 + tick, false).busy, tick + 1 < ticks));
     assert!(!machine.dma_active());
     machine
 }
@@ -96,7 +96,7 @@ fn what_a_fall_leaves_over_answers_without_a_transfer() {
     let grants = [10, 11].map(|cycle| terminal.bus_action(true, true, cycle));
     assert_eq!(grants, [Grant::Transfer, Grant::Cpu]);
     let mut by_cycles = ended_by_ticks(3, Grant::Hold, 4);
-    let held = [10, 11, 12].map(|cycle| by_cycles.run_reu_cycle(true, cycle, false, true));
+    let held = [10, 11, 12].map(|cycle| by_cycles.run_reu_cycle(true, cycle, false, true).busy);
     assert_eq!(held, [true, true, false]);
 }
 

@@ -1,6 +1,6 @@
 //! The sixteen recorded sessions of the original, run through a machine.
 
-use reu::{Grant, IMAGE_GRANTED_CYCLES, Machine, STORAGE_SIZE};
+use reu::{Grant, IMAGE_GRANTED_CYCLES, Machine, STORAGE_SIZE, Step};
 
 fn enabled() -> Machine {
     let mut machine = Machine::new();
@@ -22,17 +22,20 @@ fn started(c64: u16, expansion: u16, length: u16, bytes: &[u8], stored: &[u8], c
     machine
 }
 
-/// One cycle with BA high. Answers whether the controller had it.
-fn tick(machine: &mut Machine, cycle: u64) -> bool {
+/// What a cycle answers that the controller has, if no address passes its top in it.
+const HAD: Step = Step { busy: true, passed_c64: false, passed_expansion: false };
+
+/// One cycle with BA high.
+fn tick(machine: &mut Machine, cycle: u64) -> Step {
     machine.run_reu_cycle(true, cycle, false, true)
 }
 
-/// As many cycles, all of which the controller must have, and no more.
-fn run(machine: &mut Machine, ticks: u64) {
-    for cycle in 0..ticks {
-        assert!(tick(machine, cycle), "tick {cycle} went to the CPU");
-    }
+/// As many cycles, all of which the controller must have, and no more. Gives their answers.
+fn run(machine: &mut Machine, ticks: u64) -> Vec<Step> {
+    let answers: Vec<Step> = (0..ticks).map(|cycle| tick(machine, cycle)).collect();
+    assert_eq!(answers.iter().position(|answer| !answer.busy), None, "a tick went to the CPU");
     assert!(!machine.dma_active(), "still active after {ticks} ticks");
+    answers
 }
 
 fn held(machine: &Machine, indices: &[u64]) -> Vec<u8> {
@@ -96,7 +99,7 @@ fn r6_to_r8_verify_errors() {
 #[test]
 fn r9_swap_in_two_ticks() {
     let mut machine = started(0x1000, 0, 1, &[0x11], &[0x22], 0x92);
-    assert!(tick(&mut machine, 0));
+    assert_eq!(tick(&mut machine, 0), HAD);
     assert_eq!((machine.bus()[0x1000], machine.storage()[0]), (0x11, 0x11));
     run(&mut machine, 1);
     assert_eq!((machine.bus()[0x1000], machine.storage()[0]), (0x22, 0x11));
@@ -140,7 +143,8 @@ fn r14_wraps() {
     machine.bus_mut()[0] = 0xBB;
     machine.write(0xDF06, 0xFF);
     machine.write(0xDF01, 0x90);
-    run(&mut machine, 2);
+    let both = Step { passed_c64: true, passed_expansion: true, ..HAD };
+    assert_eq!(run(&mut machine, 2), [both, HAD]);
     assert_eq!((machine.storage()[STORAGE_SIZE - 1], machine.storage()[0]), (0xAA, 0xBB));
     assert_eq!(held(&machine, &[2, 3, 6]), [0x01, 0x00, 0x00]);
 }
@@ -148,9 +152,12 @@ fn r14_wraps() {
 #[test]
 fn r15_length_0() {
     let mut machine = started(0, 0, 0, &[], &[], 0x90);
-    assert!(tick(&mut machine, 0));
+    assert_eq!(tick(&mut machine, 0), HAD);
     assert_eq!(held(&machine, &[7, 8]), [0xFF, 0xFF]);
-    run(&mut machine, 65_535);
+    let answers = run(&mut machine, 65_535);
+    let (last, others) = answers.split_last().unwrap();
+    assert!(others.iter().all(|answer| *answer == HAD));
+    assert_eq!(*last, Step { passed_c64: true, ..HAD });
 }
 
 /// All bytes of a machine but those of its count of granted cycles.
@@ -173,7 +180,7 @@ fn late_fall(first: u64, low: u64, cycles: u64) -> (Vec<Grant>, [u8; 2]) {
             machine.tick_dma(cycle, false);
         }
         grants.push(grant);
-        assert!(by_cycles.run_reu_cycle(ba_high, cycle, false, ba_high_phi1));
+        assert_eq!(by_cycles.run_reu_cycle(ba_high, cycle, false, ba_high_phi1), HAD);
         assert!(without_count(&by_cycles) == without_count(&machine));
     }
     let granted = grants.iter().filter(|grant| **grant == Grant::Transfer).count();
