@@ -5,7 +5,7 @@ mod text;
 
 use std::collections::HashMap;
 use std::path::Path;
-use table::{COUNT, Edit, PLANTED, Planted};
+use table::{COUNT, Edit, MARKS, PLANTED, Planted};
 
 /// The modules that a copy has of its own; elsewhere `crate::` is this program.
 const OWN: [&str; 4] = ["memory", "vic", "reu", "machine"];
@@ -44,11 +44,11 @@ fn edited(text: &str, what: &str, edit: &Edit) -> String {
     text.replace(edit.old, edit.new)
 }
 
-/// A text of a copy: with the count of granted cycles, and a planted bug if it stands there.
+/// A text of a copy: with the count of granted cycles and the marks, and a planted bug if it stands there.
 fn body(sources: &HashMap<&'static str, String>, name: &str, planted: Option<&Planted>) -> String {
     let text = sources[name].replace("//!", "//");
-    let count = COUNT.iter().map(|edit| ("the count", edit));
-    let edits = count.chain(planted.map(|planted| (planted.name, &planted.edit)));
+    let added = COUNT.iter().map(|edit| ("the count", edit)).chain(MARKS.iter().map(|edit| ("the marks", edit)));
+    let edits = added.chain(planted.map(|planted| (planted.name, &planted.edit)));
     edits.filter(|(_, edit)| edit.file == name).fold(text, |text, (what, edit)| edited(&text, what, edit))
 }
 
@@ -70,7 +70,7 @@ fn copy(sources: &HashMap<&'static str, String>, number: usize, planted: Option<
     format!("#[allow(warnings, clippy::all)]\nmod copy{number} {{\n{text}}}\n")
 }
 
-/// Copy 0 is the original with the count; copy N has the Nth planted bug.
+/// Copy 0 is the original with the count and the marks; copy N has the Nth planted bug.
 fn copies(sources: &HashMap<&'static str, String>) -> String {
     let mut text = copy(sources, 0, None);
     let mut calls = String::from("copy0::call,");

@@ -1,5 +1,5 @@
 // The planted bugs: each is one edit of one text that a copy of the original is made of. Before that, each copy is given
-// the count of granted cycles, which the original has not, by edits too.
+// what the original has not, by edits too: the count of granted cycles, and the marks of an address that passes its top.
 
 /// `old` stands exactly once in `file` and is replaced by `new`.
 #[allow(dead_code)] // The build script reads it.
@@ -54,6 +54,50 @@ pub const COUNT: &[Edit] = &[
         old: "swap_read_delay: image[IMAGE_DELAY],",
         new: "swap_read_delay: image[IMAGE_DELAY],
             granted_cycles: get(&image[IMAGE_GRANTED_CYCLES..]) as u32," },
+];
+
+/// The marks of an address that passes its top, where a programmer would put them into the original: completing a byte
+/// gives them, and the tick keeps them beside the controller until the call has answered. (A copy is made anew for each
+/// call.) That they are right is found by comparing them with `src/passed.rs`, which knows the addresses from outside.
+#[allow(dead_code)] // The build script reads it.
+#[rustfmt::skip]
+pub const MARKS: &[Edit] = &[
+    Edit { file: "dma",
+        old: "pub(crate) fn complete_byte(&mut self) -> bool {\n",
+        new: "pub(crate) fn complete_byte(&mut self) -> (bool, u32) {
+\t\tlet c64_passes = self.fix_c64 == false && self.c64_addr == 0xFFFF;
+\t\tlet expansion_passes = self.fix_reu == false && self.reu_addr == 0xFF_FFFF;\n" },
+    Edit { file: "dma",
+        old: "\t\ttransfer_complete\n\t}",
+        new: "\t\tlet passed = 2 * u32::from(c64_passes) + 4 * u32::from(expansion_passes);
+\t\t(transfer_complete, passed)\n\t}" },
+    Edit { file: "reu",
+        old: "\tpub(crate) granted_cycles: u32,\n}",
+        new: "\tpub(crate) granted_cycles: u32,\n\tpub(crate) passed: u32,\n}" },
+    Edit { file: "reu",
+        old: "granted_cycles: 0,\n\t\t};",
+        new: "granted_cycles: 0,\n\t\t\tpassed: 0,\n\t\t};" },
+    Edit { file: "reu",
+        old: "let transfer_complete = dma.complete_byte();",
+        new: "let (transfer_complete, passed) = dma.complete_byte();\n\t\tself.passed = passed;" },
+    // Two that only planted bugs ask: what the transfer's next byte would report, and whether a recall repeats its byte.
+    Edit { file: "reu",
+        old: "\tpub fn dma_active(&self) -> bool {",
+        new: "\tpub(crate) fn next_passes(&self) -> u32 {
+\t\tself.dma.map_or(0, |mut dma| dma.complete_byte().1)\n\t}\n\n\tpub fn dma_active(&self) -> bool {" },
+    Edit { file: "reu",
+        old: "let mut byte_complete = false;",
+        new: "let repeats = self.recall_repeat && dma.first_byte == false && dma.transfer_type == TransferType::Recall;
+\t\tlet mut byte_complete = false;" },
+    Edit { file: "host/fields",
+        old: "get(&image[IMAGE_GRANTED_CYCLES..]) as u32,",
+        new: "get(&image[IMAGE_GRANTED_CYCLES..]) as u32,\n            passed: 0," },
+    Edit { file: "host/machine",
+        old: "u32::from(going_on)\n",
+        new: "u32::from(going_on) + self.memory.reu.passed\n" },
+    Edit { file: "host/machine",
+        old: "u32::from(self.memory.run_reu_cycle(ba_high != 0, cycle, &mut vic))\n",
+        new: "u32::from(self.memory.run_reu_cycle(ba_high != 0, cycle, &mut vic)) + self.memory.reu.passed\n" },
 ];
 
 #[rustfmt::skip]
@@ -359,6 +403,98 @@ pub const PLANTED: &[Planted] = &[
     edit("the count is opened as 24 bits", "host/fields",
         "get(&image[IMAGE_GRANTED_CYCLES..]) as u32,",
         "get(&image[IMAGE_GRANTED_CYCLES..]) as u32 & 0xFF_FFFF,"),
+
+    // The marks of an address that passes its top: which byte reports.
+    edit("a fixed C64 address reports", "dma", "self.fix_c64 == false && self.c64_addr", "self.c64_addr"),
+    edit("a fixed expansion address reports", "dma", "self.fix_reu == false && self.reu_addr", "self.reu_addr"),
+    edit("a C64 address that is 0 after a byte reports", "dma",
+        "self.fix_c64 == false && self.c64_addr == 0xFFFF",
+        "if self.fix_c64 { self.c64_addr == 0 } else { self.c64_addr == 0xFFFF }"),
+    edit("a C64 address that is not above the one before reports", "dma",
+        "self.fix_c64 == false && self.c64_addr == 0xFFFF",
+        "self.fix_c64 || self.c64_addr == 0xFFFF"),
+    edit("an expansion address that is not above the one before reports", "dma",
+        "self.fix_reu == false && self.reu_addr == 0xFF_FFFF",
+        "self.fix_reu || self.reu_addr == 0xFF_FFFF"),
+    edit("a fixed C64 address takes the expansion address's mark away", "dma",
+        "self.fix_reu == false && self.reu_addr",
+        "self.fix_c64 == false && self.fix_reu == false && self.reu_addr"),
+    breaks(14, edit("the C64 address never reports", "dma", "2 * u32::from(c64_passes) + ", "")),
+    breaks(14, edit("the expansion address never reports", "dma", " + 4 * u32::from(expansion_passes)", "")),
+    breaks(15, edit("the marks are exchanged", "dma",
+        "2 * u32::from(c64_passes) + 4 * u32::from(expansion_passes)",
+        "4 * u32::from(c64_passes) + 2 * u32::from(expansion_passes)")),
+    edit("one mark is given for either address", "dma",
+        "2 * u32::from(c64_passes) + 4 * u32::from(expansion_passes)",
+        "6 * u32::from(c64_passes || expansion_passes)"),
+    edit("of two marks only the C64's is given", "dma",
+        "4 * u32::from(expansion_passes)",
+        "4 * u32::from(expansion_passes && c64_passes == false)"),
+    breaks(14, edit("the C64 address reports one byte late", "dma", "self.c64_addr == 0xFFFF", "self.c64_addr == 0")),
+    breaks(14, edit("the expansion address reports one byte late", "dma", "self.reu_addr == 0xFF_FFFF", "self.reu_addr == 0")),
+    breaks(14, edit("the C64 address reports one byte early", "dma", "self.c64_addr == 0xFFFF", "self.c64_addr == 0xFFFE")),
+    edit("the storage's top is taken for the expansion address's", "dma",
+        "self.reu_addr == 0xFF_FFFF",
+        "self.reu_addr & 0x7_FFFF == 0x7_FFFF"),
+    edit("the expansion address reports at its folded top alone", "dma",
+        "self.reu_addr == 0xFF_FFFF",
+        "self.reu_addr == 0x7_FFFF"),
+    edit("a page's top is taken for the C64 address's", "dma", "self.c64_addr == 0xFFFF", "self.c64_addr & 0xFF == 0xFF"),
+    breaks(15, edit("the last byte of a block reports neither", "reu",
+        "self.passed = passed;",
+        "if transfer_complete == false { self.passed = passed; }")),
+    breaks(14, edit("only the last byte of a block reports", "reu",
+        "self.passed = passed;",
+        "if transfer_complete { self.passed = passed; }")),
+    edit("the end with Autoload takes the marks away", "reu",
+        "if dma.autoload {",
+        "if dma.autoload { self.passed = 0;"),
+    edit("a byte with a verify error reports neither", "reu",
+        "self.passed = passed;",
+        "if verify_error == false { self.passed = passed; }"),
+    edit("a byte after which a tail follows reports neither", "reu",
+        "dma.verify_tail = true;",
+        "dma.verify_tail = true; self.passed = 0;"),
+    edit("a verify tail reports", "reu",
+        "self.finish_dma(dma, matched);",
+        "self.passed = self.next_passes(); self.finish_dma(dma, matched);"),
+    edit("a swap's first phase reports", "reu",
+        "if !byte_complete {",
+        "if !byte_complete {\n\t\t\tself.passed = self.next_passes();"),
+    edit("a swap's byte reports neither", "reu",
+        "self.passed = passed;",
+        "if dma.transfer_type != TransferType::Swap { self.passed = passed; }"),
+    edit("a repeated byte of a recall reports neither", "reu",
+        "self.passed = passed;",
+        "if repeats == false { self.passed = passed; }"),
+    edit("a refresh reports", "reu",
+        "vic));\n\t\t\tdma.read_clock_odd = cycle & 1 != 0;",
+        "vic));\n\t\t\tself.passed = self.next_passes();\n\t\t\tdma.read_clock_odd = cycle & 1 != 0;"),
+    edit("a Hold reports", "run_reu_cycle",
+        "ReuBusAction::Hold => true,",
+        "ReuBusAction::Hold => { self.reu.passed = self.reu.next_passes(); true }"),
+
+    // Which calls pass the marks on.
+    edit("a tick passes no marks on", "host/machine", "u32::from(going_on) + self.memory.reu.passed", "u32::from(going_on)"),
+    breaks(14, edit("a cycle passes no marks on", "host/machine",
+        "cycle, &mut vic)) + self.memory.reu.passed",
+        "cycle, &mut vic))")),
+    edit("a tick that ends the command passes no marks on", "host/machine",
+        "u32::from(going_on) + self.memory.reu.passed",
+        "if going_on { 1 + self.memory.reu.passed } else { 0 }"),
+    breaks(14, edit("a mark takes the place of the value", "host/machine",
+        "u32::from(self.memory.run_reu_cycle(ba_high != 0, cycle, &mut vic)) + self.memory.reu.passed",
+        "{ let held = u32::from(self.memory.run_reu_cycle(ba_high != 0, cycle, &mut vic));
+         if self.memory.reu.passed == 0 { held } else { self.memory.reu.passed } }")),
+    breaks(14, edit("the marks are 4 and 8", "host/machine",
+        "cycle, &mut vic)) + self.memory.reu.passed",
+        "cycle, &mut vic)) + 2 * self.memory.reu.passed")),
+    edit("dma_active passes a mark on", "host/machine",
+        "u32::from(self.memory.reu.dma_active())",
+        "u32::from(self.memory.reu.dma_active()) + self.memory.reu.next_passes()"),
+    edit("a refusal has the marks of the call", "standin",
+        "return number << 24;",
+        "return (number << 24) + if call.lends_bus() { 2 } else { 0 };"),
 
     // The arguments and the answers of the exported calls.
     edit("only the low byte of a flag counts", "host/machine",

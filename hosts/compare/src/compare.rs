@@ -3,6 +3,7 @@
 use crate::calls::{Call, Step};
 use crate::generate::Generator;
 use crate::granted::{AtTop, count_of};
+use crate::passed::{AtTops, parted};
 use crate::sides::{IMAGE, Image, Machine, places};
 use reu::IMAGE_GRANTED_CYCLES;
 use std::panic::{AssertUnwindSafe, catch_unwind};
@@ -13,7 +14,8 @@ const AFTER_IMAGE: usize = 12;
 const LONG_LIST: usize = 140_000;
 /// One list in so many is long.
 const LONG_EVERY: u64 = 400;
-/// A run of so many calls must have been at the top of the count of granted cycles; the gate's runs are as long.
+/// A run of so many calls must have been at the top of the count of granted cycles, and at the tops of both addresses in all
+/// the ways that are counted; the gate's runs are as long.
 pub const FULL_RUN: u64 = 5_000_000;
 /// Whole memories are compared at the end of a list and after so many steps.
 const WHOLE_EVERY: usize = 16_384;
@@ -32,14 +34,24 @@ fn differs(what: &str, at: usize, tried: u32, right: u32) -> String {
     format!("{what} {at} is 0x{tried:02x}, the original's 0x{right:02x}")
 }
 
+/// How two answers to one call differ: without their marks, where one of the two is the original's own, or in the marks.
+fn answers_differ(call: Call, answer: u32, right: u32) -> String {
+    let ((answer, marks), (right, right_marks)) = (parted(call, answer), parted(call, right));
+    match answer == right {
+        true => format!("the answer has the marks {marks}, by the addresses {right_marks}"),
+        false => format!("the answer is {answer}, the original's {right}"),
+    }
+}
+
 impl Pair<'_> {
     /// One step on both sides, and the comparison of everything but the memories' untouched bytes.
     pub fn step(&mut self, step: Step) -> Result<(), String> {
         let before = self.right.image();
-        let (answer, right_answer) = (self.tried.step(step), self.right.step(step));
-        if answer != right_answer {
-            let [answer, right_answer] = [answer, right_answer].map(Option::unwrap_or_default);
-            return Err(format!("the answer is {answer}, the original's {right_answer}"));
+        let answers = (self.tried.step(step), self.right.step(step));
+        if let (Step::Call(call), (Some(answer), Some(right))) = (step, answers)
+            && answer != right
+        {
+            return Err(answers_differ(call, answer, right));
         }
         let (image, right_image) = (self.tried.image(), self.right.image());
         if let Some(at) = first_difference(&image, &right_image) {
@@ -122,12 +134,13 @@ pub struct Run {
     pub calls: u64,
     pub lists: u64,
     pub at_top: AtTop,
+    pub at_tops: AtTops,
     seed: u64,
 }
 
 impl Run {
     pub fn new(seed: u64) -> Self {
-        Self { calls: 0, lists: 0, at_top: AtTop::default(), seed }
+        Self { calls: 0, lists: 0, at_top: AtTop::default(), at_tops: AtTops::default(), seed }
     }
 
     /// Compares at least `calls` further calls.
@@ -152,13 +165,24 @@ impl Run {
         }
     }
 
+    /// An error if the run is a full one and has not met all that there is to meet where an address passes its top.
+    pub fn has_met_the_tops(&self) -> Result<(), String> {
+        match self.at_tops.missing() {
+            missing if self.calls < FULL_RUN || missing.is_empty() => Ok(()),
+            missing => {
+                Err(format!("compare: so long a run must meet each at the tops; missing: {}", missing.join(", ")))
+            }
+        }
+    }
+
     /// One list: from new, with full lengths, or from any accepted images, by its number.
     fn list(&mut self, pair: &mut Pair, seed: u64, steps: &mut Vec<Step>) -> Result<(), String> {
         let long = self.lists % LONG_EVERY == LONG_EVERY / 2;
         let images = !long && self.lists % 3 == 2;
         let kind = (self.lists / LONG_EVERY % 4) as u8;
         let mut generator = if long { Generator::long(seed, kind) } else { Generator::new(seed) };
-        let mut steps = Kept { steps, calls: &mut self.calls, at_top: &mut self.at_top };
+        let (calls, at_top, at_tops) = (&mut self.calls, &mut self.at_top, &mut self.at_tops);
+        let mut steps = Kept { steps, calls, at_top, at_tops };
         for start in [Step::Image([0; IMAGE]), Step::Memory(generator.seed()), Step::Call(Call::New)] {
             steps.step(pair, start)?;
         }
@@ -177,11 +201,13 @@ impl Run {
     }
 }
 
-/// Keeps each step before it is done, and counts the calls among them and those at the top of the count.
+/// Keeps each step before it is done, and counts the calls among them, those at the top of the count and those at the tops
+/// of the addresses.
 struct Kept<'a> {
     steps: &'a mut Vec<Step>,
     calls: &'a mut u64,
     at_top: &'a mut AtTop,
+    at_tops: &'a mut AtTops,
 }
 
 impl Kept<'_> {
@@ -190,6 +216,7 @@ impl Kept<'_> {
         if let Step::Call(call) = step {
             *self.calls += 1;
             self.at_top.look(pair.right, call);
+            self.at_tops.look(pair.right, call);
         }
         pair.step(step)
     }

@@ -3,7 +3,8 @@
 
 use crate::calls::Call;
 use crate::generate::Generator;
-use crate::granted::is_granted;
+use crate::granted::granted;
+use crate::passed::parted;
 use crate::refusals::Refuser;
 use crate::rng::{Rng, noise};
 use crate::sides::{BUS, Image, Machine, STORAGE, register};
@@ -95,8 +96,8 @@ impl Walk<'_> {
     fn swap(&mut self, length: usize) -> Result<(), String> {
         let command = 0x92 | (self.rng.byte() & 0x6C);
         self.write(1, command);
-        let (mut granted, mut cycles) = (0, 0);
-        while granted < 2 * length {
+        let (mut ticks, mut cycles) = (0, 0);
+        while ticks < 2 * length {
             check(self.executes(), "the swap ended too early")?;
             cycles += 1;
             check(cycles <= 4 * length + 16, "the swap is not granted its cycles")?;
@@ -104,8 +105,9 @@ impl Walk<'_> {
                 self.refused()?;
             }
             let cycle = self.cycle();
-            granted += usize::from(is_granted(self.machine, cycle));
-            check(self.machine.call(cycle) == 1, "a cycle of the swap was the processor's")?;
+            ticks += usize::from(granted(self.machine, cycle).is_some());
+            let (answer, _) = parted(cycle, self.machine.call(cycle));
+            check(answer == 1, "a cycle of the swap was the processor's")?;
         }
         check(!self.executes(), "the swap did not end at 2n granted cycles")
     }

@@ -23,8 +23,10 @@ enum Ba {
 const QUIET: [usize; 4] = [4, 12, 40, 400];
 const FLAGS: [u32; 8] = [1, 2, 3, 0x80, 0x100, 0x1_0000, 0x8000_0000, u32::MAX];
 const LENGTHS: [u16; 18] = [1, 1, 1, 1, 2, 2, 2, 3, 3, 4, 5, 8, 17, 255, 256, 257, 0, 0xFFFF];
-const C64: [u16; 10] = [0x0000, 0x1000, 0x1000, 0x10FF, 0x2000, 0xFEFF, 0xFF00, 0xFFFD, 0xFFFE, 0xFFFF];
-const EXPANSION: [u32; 10] = [0, 0, 1, 0xFFFF, 0x7FFFE, 0x7FFFF, 0x80000, 0xF7FFFF, 0xFFFFFE, 0xFFFFFF];
+/// The top of each address, and where something happens.
+const C64: (u32, &[u32]) = (0xFFFF, &[0x0000, 0x1000, 0x1000, 0x10FF, 0x2000, 0xFEFF, 0xFF00, 0xFFFD, 0xFFFE, 0xFFFF]);
+const EXPANSION: (u32, &[u32]) =
+    (0xFF_FFFF, &[0, 0, 1, 0xFFFF, 0x7FFFE, 0x7FFFF, 0x80000, 0xF7FFFF, 0xFFFFFE, 0xFFFFFF]);
 
 pub struct Generator {
     rng: Rng,
@@ -140,17 +142,28 @@ impl Generator {
         }
     }
 
+    /// An address at which a block of so many bytes begins, 0 for 65,536: one in three so that one of its first four bytes
+    /// is at the top, of the others one in `wild` anywhere, and the rest where something happens.
+    fn address(&mut self, (top, happens): (u32, &[u32]), length: u32, wild: usize) -> u32 {
+        let any = self.rng.word() as u32 & top;
+        let reach = if length == 0 { 4 } else { length.min(4) as usize };
+        match self.rng.one_in(3) {
+            true => top - self.rng.below(reach) as u32,
+            false if self.rng.one_in(wild) => any,
+            false => self.rng.pick(happens),
+        }
+    }
+
     /// Plans a command: some or all registers in any order, COMMAND, and perhaps its trigger.
     fn plan_command(&mut self) {
         let any = self.rng.word();
-        let c64 = if self.rng.one_in(8) { any as u16 } else { self.rng.pick(&C64) }.to_le_bytes();
-        let expansion = if self.rng.one_in(8) { (any >> 16) as u32 } else { self.rng.pick(&EXPANSION) }.to_le_bytes();
-        let length = self.rng.pick(self.lengths).to_le_bytes();
+        let length = self.rng.pick(self.lengths);
+        let [c64, expansion] = [C64, EXPANSION].map(|kind| self.address(kind, length.into(), 8));
         let control = self.rng.pick(&[0, 0, 0, 0x40, 0x80, 0xC0, any as u8]);
         let mask = self.rng.pick(&[0, 0x20, 0x40, 0xA0, 0xC0, 0xE0, any as u8]);
-        let [c64_low, c64_high] = c64;
-        let [low, high, bank, _] = expansion;
-        let values = [c64_low, c64_high, low, high, bank, length[0], length[1], mask, control];
+        let ([c64_low, c64_high, ..], [low, high, bank, _]) = (c64.to_le_bytes(), expansion.to_le_bytes());
+        let [length_low, length_high] = length.to_le_bytes();
+        let values = [c64_low, c64_high, low, high, bank, length_low, length_high, mask, control];
         let mut indexes = [2, 3, 4, 5, 6, 7, 8, 9, 10];
         self.rng.shuffle(&mut indexes);
         let skipped = if self.rng.one_in(3) { self.rng.below(9) } else { 0 };
@@ -296,16 +309,15 @@ impl Generator {
         image[IMAGE_TYPE] = self.rng.below(4) as u8;
         image[IMAGE_PHASE] = u8::from(image[IMAGE_TYPE] == SWAP && self.rng.one_in(2));
         let any = self.rng.word();
-        let c64 = if self.rng.one_in(2) { any as u16 } else { self.rng.pick(&C64) };
-        let expansion = if self.rng.one_in(2) { (any >> 16) as u32 } else { self.rng.pick(&EXPANSION) };
         let length = u32::from(self.rng.pick(&LENGTHS)).max(1);
         let remaining = self.rng.pick(&[1, 1, 2, 2, 3, length, 65_535, 65_536, 1 + (any >> 48) as u32]);
-        set_number(&mut image[IMAGE_C64_ADDRESS..IMAGE_EXPANSION_ADDRESS], c64.into());
+        let [c64, expansion] = [C64, EXPANSION].map(|kind| self.address(kind, remaining, 2));
+        set_number(&mut image[IMAGE_C64_ADDRESS..IMAGE_EXPANSION_ADDRESS], c64);
         set_number(&mut image[IMAGE_EXPANSION_ADDRESS..IMAGE_REMAINING], expansion);
         set_number(&mut image[IMAGE_REMAINING..IMAGE_LATCH], remaining);
         image[IMAGE_LATCH] = self.rng.byte();
         image[IMAGE_TRANSFER_FLAGS] = self.rng.byte() & (TRANSFER_TAIL - 1);
-        if image[IMAGE_TYPE] == VERIFY && remaining == 1 && self.rng.one_in(2) {
+        if image[IMAGE_TYPE] == VERIFY && remaining == 1 && self.rng.below(4) != 0 {
             image[IMAGE_TRANSFER_FLAGS] |= TRANSFER_TAIL;
         }
     }

@@ -40,13 +40,15 @@ pub fn count_after(call: Call, before: &Image, granted: bool) -> u32 {
     }
 }
 
-/// Whether a call is a cycle whose grant is Transfer, by this machine's `bus_action`; the machine is left as it was.
-pub fn is_granted(machine: &mut dyn Machine, call: Call) -> bool {
+/// What the grant of a cycle leaves of the controller, if it is Transfer, by this machine's `bus_action`; none for another
+/// grant or call. The machine is left as it was.
+pub fn granted(machine: &mut dyn Machine, call: Call) -> Option<Image> {
     match call {
         Call::RunReuCycle { ba_high, cycle, ba_high_phi1, .. } => {
-            machine.grant(ba_high, ba_high_phi1, cycle) == TRANSFER
+            let (grant, image) = machine.grant(ba_high, ba_high_phi1, cycle);
+            (grant == TRANSFER).then_some(image)
         }
-        _ => false,
+        _ => None,
     }
 }
 
@@ -61,7 +63,7 @@ impl AtTop {
     /// Looks at a call before it is made.
     pub fn look(&mut self, machine: &mut dyn Machine, call: Call) {
         let below = TOP - count_of(&machine.image());
-        if below <= 1 && is_granted(machine, call) {
+        if below <= 1 && granted(machine, call).is_some() {
             self.reached += u64::from(below == 1);
             self.held += u64::from(below == 0);
         }

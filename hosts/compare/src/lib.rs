@@ -8,6 +8,7 @@ pub mod copies;
 pub mod demand3;
 pub mod generate;
 pub mod granted;
+pub mod passed;
 #[cfg(original)]
 pub mod planted;
 pub mod port;

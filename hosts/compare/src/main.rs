@@ -140,7 +140,8 @@ mod with_original {
         let Err(found) = done else {
             println!("compare: {calls} calls agree, in {lists} lists");
             println!("compare: {reached} granted cycles brought the count to its top, {held} came when it was there");
-            return run.has_met_the_top();
+            println!("compare: calls at the tops of the addresses: {}", run.at_tops.told());
+            return run.has_met_the_top().and_then(|()| run.has_met_the_tops());
         };
         let disagree = format!("compare: the library and the original disagree after {calls} calls: {}", found.what);
         Err(format!("{disagree}\n{}", short(&mut pair, *found, bug)))

@@ -61,7 +61,7 @@ const WRAPPED: &[Bug] = &[
         let flags = lent.image.get(IMAGE_TRANSFER_FLAGS).copied().unwrap_or_default();
         let first = matches!(call, Call::RunReuCycle { .. }) && flags & TRANSFER_FIRST_BYTE != 0;
         let answer = right(call, lent);
-        if first && answer == 1 { 0 } else { answer }
+        if first { answer & !1 } else { answer }
     }),
     ("the remaining length that is shown is invented", Breaks::Session(6), |call, lent| {
         let Lent { image, bus, storage } = lent;
@@ -78,7 +78,7 @@ const WRAPPED: &[Bug] = &[
         let cycle = matches!(call, Call::RunReuCycle { .. });
         for _ in 0..131_072 {
             let answer = right(call, Lent { image: &mut *image, bus: &mut *bus, storage: &mut *storage });
-            let swaps = cycle && answer == 1 && image[IMAGE_TYPE] == SWAP;
+            let swaps = cycle && answer & 1 == 1 && image[IMAGE_TYPE] == SWAP;
             if !swaps {
                 return answer;
             }

@@ -1,12 +1,16 @@
-//! The recorded list: what the original answered, and what it changed, call by call. The count of granted cycles, which
-//! the original has not, is recorded with it as `granted.rs` has it.
+//! The recorded list: what the original answered, and what it changed, call by call. The original has neither the count of
+//! granted cycles nor the marks of an address that passes its top: they are recorded with it as `granted.rs` and `passed.rs`
+//! have them, so that a host without the original still compares both. The marks stand apart, so that the answer is the
+//! original's own.
 //!
-//! A line is a step as `calls.rs` writes it; a call's line goes on with `= ANSWER` and what has changed: `N:BYTE` of
-//! the image, `bADDR:BYTE` of the bus, `sOFFSET:BYTE` of the storage. `sum BUS STORAGE` gives both memories' sums.
+//! A line is a step as `calls.rs` writes it; a call's line goes on with `= ANSWER`, with `+MARKS` if it has any, and with
+//! what has changed: `N:BYTE` of the image, `bADDR:BYTE` of the bus, `sOFFSET:BYTE` of the storage. `sum BUS STORAGE` gives
+//! both memories' sums.
 
 use crate::calls::{Call, Step};
 use crate::compare::list_seed;
 use crate::generate::Generator;
+use crate::passed::parted;
 use crate::sides::{IMAGE, Machine, places};
 use reu::IMAGE_GRANTED_CYCLES;
 
@@ -31,9 +35,13 @@ fn tell(machine: &mut dyn Machine, step: Step) -> String {
     let before = machine.image();
     let (addr, offset) = places(&before);
     let (bus, storage) = (machine.bus()[addr], machine.storage()[offset]);
-    let mut line = step.to_string();
-    let Some(answer) = machine.step(step) else { return line };
+    let (mut line, answer) = (step.to_string(), machine.step(step));
+    let (Step::Call(call), Some(answer)) = (step, answer) else { return line };
+    let (answer, marks) = parted(call, answer);
     line += &format!(" = {answer}");
+    if marks != 0 {
+        line += &format!(" +{marks}");
+    }
     for (at, byte) in machine.image().iter().enumerate().filter(|(at, byte)| before[*at] != **byte) {
         line += &format!(" {at}:{byte:02x}");
     }
@@ -93,6 +101,7 @@ pub fn record(machine: &mut dyn Machine, seed: u64) -> String {
     format!(
         "# What the original answers to {calls} calls: made from its Rust, compiled unchanged, by\n\
          # `{how}`. src/record.rs says how a line is read.\n\
-         # Image bytes from {IMAGE_GRANTED_CYCLES} on, the count of granted cycles, are src/granted.rs's.\n{text}"
+         # Image bytes from {IMAGE_GRANTED_CYCLES} on, the count of granted cycles, are src/granted.rs's, and +2, +4 and +6\n\
+         # behind an answer, the marks of an address that passed its top, src/passed.rs's.\n{text}"
     )
 }

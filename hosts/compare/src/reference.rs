@@ -1,7 +1,9 @@
-//! The original's side, with the count that it has not beside it.
+//! The original's side, with what it has not beside it: the count of granted cycles, and the marks of an address that passes
+//! its top. Both are by the comparison's own rules, so everything else compares whole images and whole answers.
 
 use crate::calls::{Call, answer_of};
-use crate::granted::{count_after, count_of, is_granted};
+use crate::granted::{count_after, count_of, granted};
+use crate::passed::marks;
 use crate::sides::{Image, Machine, set_number};
 use reu::IMAGE_GRANTED_CYCLES;
 
@@ -15,9 +17,9 @@ pub struct Original {
 
 impl Machine for Original {
     fn call(&mut self, call: Call) -> u32 {
-        let granted = is_granted(self, call);
-        self.count = count_after(call, &self.image(), granted);
-        answer_of!(self.machine, call)
+        let (before, granted) = (self.image(), granted(self, call));
+        self.count = count_after(call, &before, granted.is_some());
+        answer_of!(self.machine, call) + marks(call, &before, granted.as_ref())
     }
 
     fn image(&self) -> Image {
@@ -31,9 +33,9 @@ impl Machine for Original {
         self.count = count_of(image);
     }
 
-    fn grant(&mut self, ba_high: u32, ba_high_phi1: u32, cycle: u64) -> u32 {
+    fn grant(&mut self, ba_high: u32, ba_high_phi1: u32, cycle: u64) -> (u32, Image) {
         self.asked.load(&self.machine.image());
-        self.asked.bus_action(ba_high, ba_high_phi1, cycle)
+        (self.asked.bus_action(ba_high, ba_high_phi1, cycle), self.asked.image())
     }
 
     fn interrupt(&self) -> bool {

@@ -76,6 +76,7 @@ impl<'a> Desk<'a> {
         self.machine.call(Call::RunReuCycle { ba_high, cycle, ba_low, ba_high_phi1 })
     }
 
+    /// Cycles with BA high; their answers say nothing here but in R14 and R15, where an address passes its top.
     fn ticks(&mut self, times: usize) {
         for _ in 0..times {
             self.cycle(1, 1);
@@ -209,9 +210,9 @@ fn r14(machine: &mut dyn Machine) -> bool {
     desk.bus(0, &[0xA5]);
     desk.program(0xFFFF, 0xFF_FFFF, 2);
     desk.write(1, 0x90);
-    desk.ticks(2);
+    let answers = [desk.cycle(1, 1), desk.cycle(1, 1)];
     let stored = [desk.machine.storage()[STORAGE - 1], desk.machine.storage()[0]];
-    stored == [0x5A, 0xA5] && desk.word(2) == 1 && desk.shown(6) == 0
+    answers == [7, 1] && stored == [0x5A, 0xA5] && desk.word(2) == 1 && desk.shown(6) == 0
 }
 
 fn r15(machine: &mut dyn Machine) -> bool {
@@ -222,8 +223,8 @@ fn r15(machine: &mut dyn Machine) -> bool {
     let first = desk.word(7) == 0xFFFF;
     desk.ticks(65_534);
     let before_last = desk.machine.call(Call::DmaActive);
-    desk.ticks(1);
-    first && before_last == 1 && desk.machine.call(Call::DmaActive) == 0 && desk.shown(STATUS) == 0x50
+    let last = desk.cycle(1, 1);
+    first && before_last == 1 && last == 3 && desk.machine.call(Call::DmaActive) == 0 && desk.shown(STATUS) == 0x50
 }
 
 /// The grants of R16's five cycles are those of `bus_action` for the same inputs on a machine that is left as it was.
@@ -236,7 +237,7 @@ fn r16(machine: &mut dyn Machine) -> bool {
     let mut grants = Vec::new();
     for cycle in 10..15 {
         let (ba_high, ba_high_phi1) = (u32::from(cycle != 10), u32::from(cycle != 11));
-        grants.push(desk.machine.grant(ba_high, ba_high_phi1, cycle));
+        grants.push(desk.machine.grant(ba_high, ba_high_phi1, cycle).0);
         desk.cycle = cycle;
         desk.cycle(ba_high, ba_high_phi1);
     }

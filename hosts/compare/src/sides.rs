@@ -39,15 +39,16 @@ pub trait Machine {
     /// Makes them so again.
     fn mend_guards(&mut self) {}
 
-    /// What `bus_action` would answer now; the machine is left as it was.
-    fn grant(&mut self, ba_high: u32, ba_high_phi1: u32, cycle: u64) -> u32 {
+    /// What `bus_action` would answer now, and the controller that it would leave; the machine is left as it was.
+    fn grant(&mut self, ba_high: u32, ba_high_phi1: u32, cycle: u64) -> (u32, Image) {
         let image = self.image();
         let offset = places(&image).1;
         let byte = self.storage()[offset];
         let answer = self.call(Call::BusAction { ba_high, ba_high_phi1, cycle });
+        let left = self.image();
         self.load(&image);
         self.storage_mut()[offset] = byte;
-        answer
+        (answer, left)
     }
 
     /// Does one step; a call gives its answer.

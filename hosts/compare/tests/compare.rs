@@ -4,6 +4,7 @@ use compare::calls::{Call, Step, list_from, list_text};
 use compare::compare::{FULL_RUN, Pair, Run};
 use compare::generate::Generator;
 use compare::granted::AtTop;
+use compare::passed::AtTops;
 use compare::port::Library;
 use compare::record::replay;
 use compare::refusals::{Refusals, Refuser};
@@ -62,6 +63,21 @@ fn a_full_run_must_have_met_the_top_of_the_count() {
     };
     assert!(met(FULL_RUN, 1, 1) && met(FULL_RUN - 1, 0, 0));
     assert!(!met(FULL_RUN, 0, 0) && !met(FULL_RUN, 1, 0) && !met(FULL_RUN, 0, 1));
+}
+
+#[test]
+fn a_full_run_must_have_met_all_that_is_counted_at_the_tops_of_the_addresses() {
+    let met = |calls, counts| {
+        let mut run = Run::new(SEED);
+        (run.calls, run.at_tops) = (calls, AtTops(counts));
+        run.has_met_the_tops().is_ok()
+    };
+    assert!(met(FULL_RUN, [1; 8]) && met(FULL_RUN - 1, [0; 8]));
+    for at in 0..8 {
+        let mut counts = [7; 8];
+        counts[at] = 0;
+        assert!(!met(FULL_RUN, counts), "{at}");
+    }
 }
 
 /// The first line that the program prints, which is then ended.
