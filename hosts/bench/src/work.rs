@@ -2,6 +2,7 @@
 
 use crate::screen::{self, Ba, CYCLES_PER_LINE};
 use crate::sides::Side;
+use reu::{PASSED_C64, PASSED_EXPANSION};
 use std::hint::black_box;
 
 /// A kind of work. `Mix` comes first: it is what the ratio is about.
@@ -68,10 +69,11 @@ fn start<S: Side>(side: &mut S, bank: u8, length: u16, command: u8, answers: &mu
     answers.take(side.write(0xDF01, command));
 }
 
-/// One cycle. The compiler may know nothing of the side or the inputs: a host's loop has other work between cycles.
+/// One cycle. The compiler may know nothing of the side or the inputs: a host's loop has other work between cycles. The
+/// answer is without the marks of an address that passes its top, which the original has not.
 fn cycle<S: Side>(side: &mut S, ba: Ba, number: u64) -> u32 {
     let (side, ba) = black_box((side, ba));
-    side.run_reu_cycle(ba.high, black_box(number), ba.low, ba.high_phi1)
+    side.run_reu_cycle(ba.high, black_box(number), ba.low, ba.high_phi1) & !(PASSED_C64 | PASSED_EXPANSION)
 }
 
 /// So many of one call, with its number; what is known of the side is forgotten likewise.
