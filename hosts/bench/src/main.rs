@@ -93,8 +93,8 @@ fn main() {
 mod tests {
     use super::*;
 
-    /// What is measured is the same on both sides: every answer, and at the end bus, storage and all of the image that
-    /// both have.
+    /// What is measured is the same on both sides: every answer without the marks, and at the end bus, storage and all of
+    /// the image that both have.
     #[test]
     fn both_sides_do_the_same() {
         for (work, _) in Work::ALL {
