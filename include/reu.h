@@ -58,8 +58,8 @@
  * AN ADDRESS THAT PASSES ITS TOP
  * So that a host can mark it, reu_tick_dma() and reu_run_reu_cycle() report it with their values: REU_PASSED_C64 more
  * if the call completed a byte with which the C64 address stepped from $FFFF to 0, REU_PASSED_EXPANSION more if the
- * expansion address stepped from $FFFFFF to 0. Every byte that is completed reports, also the last of a block, one that
- * differs in a verify, and one that a recall repeats. A fixed address does not step and never reports. A call that
+ * expansion address stepped from $FFFFFF to 0. So it is with every byte that is completed, the last of a block too, one
+ * that differs in a verify, and one that a recall repeats. A fixed address does not step and never reports. A call that
  * completes no byte reports neither: the first tick of a swap's byte, a refresh, a verify tail, Hold, a cycle of the
  * CPU, a tick without a transfer, a refused call. That the storage begins anew each 524,288 bytes is not reported.
  * Bit 0 is what the original answers, which has no such marks: a host tests reu_value(answer) & 1, and not == 1.

@@ -95,6 +95,17 @@ fn a_fixed_address_never_reports_its_own() {
     }
 }
 
+/// Where it stays, at 0 too: being 0 after a byte is not having passed the top.
+#[test]
+fn a_fixed_address_reports_nowhere() {
+    for c64 in [0, 0x00FF, 0x7FFF, 0xFFFE] {
+        let machine = started(Block { c64, length: 2, control: 0xC0, ..AT_BOTH }, STORE);
+        for expansion in [0, 0x07_FFFF, 0xFF_FFFE, 0xFF_FFFF] {
+            assert_eq!(marks(&at_expansion(&machine, expansion)), [0, 0], "${c64:04X}, ${expansion:06X}");
+        }
+    }
+}
+
 /// The address has stepped, whatever the registers then show.
 #[test]
 fn autoload_does_not_take_a_mark_away() {

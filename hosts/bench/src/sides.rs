@@ -3,7 +3,8 @@
 use original::machine::Machine;
 use reu::{BUS_SIZE, IMAGE_GRANTED_CYCLES, IMAGE_SIZE, STORAGE_SIZE, raw};
 
-/// The calls that are measured, as the library exports them: flags are 0 or 1, answers document 01's values.
+/// The calls that are measured, as the library exports them: flags are 0 or 1, answers document 01's values, the library's
+/// with the marks that request L2 adds.
 pub trait Side {
     /// A new controller, enabled, with some bytes on the bus.
     fn enabled() -> Self;

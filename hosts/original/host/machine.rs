@@ -5,8 +5,8 @@ use crate::reu::{Reu, ReuBusAction, ReuC64Access};
 use crate::vic::VicII;
 use ::reu::{BUS_SIZE, IMAGE_SIZE};
 
-/// The original with a bus and a storage of its own. Each call answers document 01's value for it; flags are as in
-/// the exported calls: 0 is false.
+/// The original with a bus and a storage of its own. Each call answers document 01's value for it, without the marks that
+/// request L2 adds; flags are as in the exported calls: 0 is false.
 pub struct Machine {
     memory: Memory,
     /// The storage's bytes while the controller has none attached: a host lends them all the same.
