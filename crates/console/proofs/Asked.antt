@@ -11,12 +11,12 @@ use lib.Seq.{set-set}
 use Rattle.transfer.specs.declared.memory.Put.{Put}
 use Rattle.transfer.specs.declared.memory.Put.the-variants.{Nothing, Bus, Storage}
 use Rattle.controller.specs.declared.reu.Reu.{Reu}
-use Rattle.controller.specs.declared.reu.Answer.{Answer}
 use Rattle.transfer.specs.Memory.{putStorage}
 use Rattle.controller.specs.BusAction.{Granted, nextAction, busAction}
-use Rattle.controller.specs.Calls.{busActionCall, cycleCall, grantedAnswer, refused, tickedAnswer}
+use Rattle.controller.specs.Calls.{busActionCall, cycleCall, grantedAnswer, refused}
 use Rattle.transfer.specs.Constants.{busSize}
 use Rattle.controller.specs.Cycle.{cycleBy, runReuCycle}
+use Rattle.controller.specs.TickDma.{Ticked, quietStep}
 use Rattle.controller.specs.Refusals.{checked, refusalOf}
 
 -- what is written twice is written once, and the length stays
@@ -46,27 +46,27 @@ module _ (m : List ℕ) (hm : length m ≡ busSize) (s : List ℕ) (high phi1 : 
   abbrev g : Granted
   g = busAction u s high phi1 number
 
-  abbrev call : List ℕ → (Answer × List ℕ × List ℕ)
+  abbrev call : List ℕ → Ticked
   call t = cycleCall u m t high phi1 number low
 
   abbrev k : ℕ
   k = refusalOf u busSize (length s)
 
-  abbrev ran : List ℕ → (Answer × List ℕ × List ℕ)
-  ran t = tickedAnswer (runReuCycle u m t high phi1 number low)
+  abbrev ran : List ℕ → Ticked
+  ran t = runReuCycle u m t high phi1 number low
 
   taken : (t : List ℕ) → length t ≡ length s → eqb k 0 ≡ true → call t ≡ ran t
   unfolding cycleCall checked
   taken t l e =
       let none : eqb (refusalOf u (length m) (length t)) 0 ≡ true = (λ j. eqb (refusalOf u (hm j) (l j)) 0) ∙ e in
-      λ j. cond (none j) (ran t) (refused u (refusalOf u (length m) (length t)), m, t)
+      λ j. cond (none j) (ran t) (quietStep (refusalOf u (length m) (length t)) false u, m, t)
 
   after-grant : (b : Bool) → eqb k 0 ≡ b → call (cond b (grantedAnswer g) (refused u k, s) .1) ≡ call s
   unfolding runReuCycle
   after-grant false e = refl
   after-grant true e =
       taken (g .1) (asked-long u s high phi1 number) e
-      ∙ ap (λ (x : Granted). tickedAnswer (cycleBy (x .0 .action) (x .0 .reu) m (x .1) number low)) (asked-again u s high phi1 number)
+      ∙ ap (λ (x : Granted). cycleBy (x .0 .action) (x .0 .reu) m (x .1) number low) (asked-again u s high phi1 number)
       ∙ sym (taken s refl e)
 
   pub asked-first : call (busActionCall u s high phi1 number .1) ≡ call s

@@ -8,9 +8,9 @@ use lib.Dec.{eqb}
 use lib.ListN.{length, replicate}
 use borrow.Author.Tests.{eqb-false, le-ltb, ne-eqb}
 use Rattle.image.specs.Layout.{imageSize}
-use Rattle.controller.specs.declared.reu.Answer.{Answer}
 use Rattle.controller.specs.declared.reu.Reu.{Reu}
-use Rattle.controller.specs.Calls.{busActionCall, cycleCall}
+use Rattle.controller.specs.Calls.{busActionCall, cycleCall, numbered}
+use Rattle.controller.specs.TickDma.{Ticked}
 use Rattle.transfer.specs.Constants.{busSize}
 use Rattle.controller.specs.Refusals.{checked, refusalOf, wellFormed}
 use Rattle.image.specs.Open.{bytesOk, imageOk, openImage}
@@ -30,7 +30,7 @@ module _ (m : List ℕ) (hm : length m ≡ busSize) (s : List ℕ) (high number 
     abbrev u : Reu
     u = openImage i .reu
 
-    abbrev call : List ℕ → (Answer × List ℕ × List ℕ)
+    abbrev call : List ℕ → Ticked
     call t = cycleCall u m t (flag high) (flag phi1) number (flag low)
 
     opened : (t : List ℕ) → eqb n 0 ≡ true → cycle t ≡ changedBoth (call t) i
@@ -40,7 +40,7 @@ module _ (m : List ℕ) (hm : length m ≡ busSize) (s : List ℕ) (high number 
     by-image : (b : Bool) → eqb n 0 ≡ b
         → cycle (cond b (changedStorage (busActionCall u s (flag high) (flag phi1) number) i) (refusal n, i, s) .2) ≡ cycle s
     by-image false e = refl
-    by-image true e = opened _ e ∙ ap (λ (x : Answer × List ℕ × List ℕ). changedBoth x i) (asked-first m hm s (flag high) (flag phi1) number (flag low) u) ∙ sym (opened s e)
+    by-image true e = opened _ e ∙ ap (λ (x : Ticked). changedBoth x i) (asked-first m hm s (flag high) (flag phi1) number (flag low) u) ∙ sym (opened s e)
 
     by-copy : (b : Bool) → cycle (reuBusAction (cond b i (replicate imageSize 255)) s high phi1 number .2) ≡ cycle s
     unfolding changeStorage checked openImage imageOk bytesOk
@@ -55,7 +55,7 @@ module _ (m : List ℕ) (other : length m ≡ busSize → ⊥) (i s : List ℕ) 
   abbrev v : Reu
   v = openImage i .reu
 
-  by-value : (b : Bool) → wellFormed v ≡ b → accepted (code (cycleCall v m s (flag high) (flag phi1) number (flag low) .0)) ≡ false
+  by-value : (b : Bool) → wellFormed v ≡ b → accepted (code (numbered (cycleCall v m s (flag high) (flag phi1) number (flag low) .0))) ≡ false
   unfolding cycleCall checked refusalOf code
   by-value true e = rw (e, ne-eqb (length m) busSize other)
   by-value false e = rw e

@@ -18,12 +18,14 @@ use Rattle.pane.specs.Answers.{accepted}
 use Rattle.pane.specs.Rows.{copyOf, longAt}
 use Rattle.text.specs.Shown.{_⊕_, decimalOf}
 use Rattle.transfer.specs.Bytes.{bit, bitOf}
+use Rattle.transfer.specs.Dma.{neither}
+use Rattle.transfer.specs.declared.dma.Passed.{Passed}
 use Rattle.transfer.proofs.Bits.{bit-digit, low-digit}
 use Rattle.lines.specs.declared.clock.Clock.{Clock}
 use Rattle.console.specs.declared.step.Cycle.{Cycle}
 use Rattle.console.specs.declared.step.Run.{Run}
 use Rattle.lines.specs.Clock.{inputsOf, letterOf, nextClock, timeOf}
-use Rattle.console.specs.Step.{Running, accessText, advanced, askedOf, baText, bytesThere, counted, cycleLine, cycleOf, goOf, grantText, refusedCycle, timeAfter}
+use Rattle.console.specs.Step.{Running, accessText, advanced, askedOf, baText, bytesThere, counted, cycleLine, cycleOf, goOf, grantText, marksOf, passedText, refusedCycle, timeAfter, withMarks}
 use Rattle.console.proofs.Cycles.{asking-changes-nothing, other-bus}
 
 -- the grant that is asked for, with the access and the offset; the inputs are bits, which the code takes as digits
@@ -34,15 +36,15 @@ module _ (inputs number : ℕ) (i s : List ℕ) where
 
   pub asked : {lent : ℕ} {copy j t : List ℕ} {grant access at : ℕ} → lent ≡ busSize → copy ≡ copyOf i
       → (grant, j, t) ≡ reuBusAction copy s (inputs / 4 % 2) (inputs / 2 % 2) number → access ≡ reuC64Access j → at ≡ longAt j (placeOf transferExp)
-      → (record { grant = grant; access = access % refusalUnit; offset = at % 524288 }, t)
+      → (record { grant = grant; access = access % refusalUnit; offset = at % 524288; passed = neither }, t)
       ≡ cond (eqb lent busSize) (askedOf inputs number i s) (refusedCycle 0, s)
   unfolding askedOf
   asked {lent} {t = t} {grant = grant} h c g a o =
       let same = g ∙ (λ x. reuBusAction (c x) s (sym (bit-digit inputs 2) x) (sym (bit-digit inputs 1) x) number) in
       rw (eq-eqb lent busSize h)
-      ((λ x. (record { grant = grant; access = a x % refusalUnit; offset = o x % 524288 }, t))
+      ((λ x. (record { grant = grant; access = a x % refusalUnit; offset = o x % 524288; passed = neither }, t))
       ∙ ap
-      (λ (y : ℕ × List ℕ × List ℕ). (record { grant = y .0; access = reuC64Access (y .1) % refusalUnit; offset = longAt (y .1) (placeOf transferExp) % 524288 }, y .2))
+      (λ (y : ℕ × List ℕ × List ℕ). (record { grant = y .0; access = reuC64Access (y .1) % refusalUnit; offset = longAt (y .1) (placeOf transferExp) % 524288; passed = neither }, y .2))
       same)
 
 -- a cycle, from what was asked before it and what it answered and left
@@ -79,11 +81,15 @@ module _ (inputs number : ℕ) (i m s : List ℕ) (x : Cycle) (t : List ℕ)
     is : test ≡ accepted (cycle s .0)
     is = e ∙ ap (λ (y : ℕ × List ℕ × List ℕ × List ℕ). accepted (y .0)) (same .0)
 
-    pub ran : test ≡ true → (x, k .1, k .2, k .3) ≡ cycleOf inputs number i m s
+    pub ran : {p : Passed} → test ≡ true → p ≡ marksOf (k .0)
+        → (record { grant = x .grant; access = x .access; offset = x .offset; passed = p }, k .1, k .2, k .3)
+        ≡ cycleOf inputs number i m s
     unfolding cycleOf
-    ran h =
+    ran h q =
         let ok : accepted (cycle s .0) ≡ true = sym is ∙ h in
-        rw ok (λ j. (same .1 ok j, same .0 j .1, same .0 j .2, same .0 j .3))
+        rw ok
+        ((λ j. (record { grant = x .grant; access = x .access; offset = x .offset; passed = q j }, k .1, k .2, k .3))
+        ∙ (λ j. (withMarks (same .1 ok j) (same .0 j .0), same .0 j .1, same .0 j .2, same .0 j .3)))
 
     pub not-run : {y : Cycle} → test ≡ false → y ≡ refusedCycle (k .0) → (y, k .1, k .2, k .3) ≡ cycleOf inputs number i m s
     unfolding cycleOf
@@ -98,11 +104,11 @@ module _ (c : Clock) (done : Cycle) (m s : List ℕ) {none number ba granted : L
   begun : granted ≡ baText ([] ⊕ decimalOf (c .cycle)) (letterOf c) ⊕ grantText (done .grant)
   begun = let whole = then _ p q in then _ (b ∙ (λ j. baText (whole j) (l j))) g
 
-  -- a cycle with its access and the bytes
-  pub made : {accessed line : List ℕ} → test ≡ true → accessed ≡ accessText granted (done .access)
-      → line ≡ bytesThere accessed done m s → line ≡ cycleLine c done m s
+  -- a cycle with its access, the bytes and the marks
+  pub made : {accessed there line : List ℕ} → test ≡ true → accessed ≡ accessText granted (done .access)
+      → there ≡ bytesThere accessed done m s → line ≡ passedText there (done .passed) → line ≡ cycleLine c done m s
   unfolding cycleLine
-  made h x y = rw (← e, h, ← begun, ← x) y
+  made h x y z = rw (← e, h, ← begun, ← x, ← y) z
 
   -- one that was refused
   pub refused : test ≡ false → granted ≡ cycleLine c done m s
@@ -128,13 +134,13 @@ module _ (x : Running) (active : ℕ) (a : active ≡ reuDmaActive (x .1)) where
   pub onward : (inputs : ℕ) (y : Cycle × List ℕ × List ℕ × List ℕ) (r : Run) → active ≡ 1
       → inputs ≡ inputsOf (letterOf (x .0 .clock))
       → y ≡ cycleOf inputs (x .0 .clock .cycle) (x .1) (x .2) (x .3)
-      → r ≡ counted (x .0) (y .0 .grant) → (r, y .1, y .2, y .3) ≡ advanced x
+      → r ≡ counted (x .0) (y .0) → (r, y .1, y .2, y .3) ≡ advanced x
   unfolding advanced
   onward inputs y r h n e c =
       let done = e ∙ ap (λ (k : ℕ). cycleOf k (x .0 .clock .cycle) (x .1) (x .2) (x .3)) n in
       rw (← a, eq-eqb active 1 h)
       (ap (λ (q : Run). (q, y .1, y .2, y .3)) c
-      ∙ ap (λ (z : Cycle × List ℕ × List ℕ × List ℕ). (counted (x .0) (z .0 .grant), z .1, z .2, z .3)) done)
+      ∙ ap (λ (z : Cycle × List ℕ × List ℕ × List ℕ). (counted (x .0) (z .0), z .1, z .2, z .3)) done)
 
 -- a run: a cycle, and one less to go
 pub turn : (n : ℕ) (x y : Running) → 0 < n → y ≡ advanced x → goOf n x ≡ goOf (n - 1) y

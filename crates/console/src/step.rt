@@ -7,13 +7,14 @@ use pane::rows::copied;
 use pane::rows::transfer_expansion;
 use text::bytes::byte;
 use text::line::Line;
+use transfer::Passed;
 ghost use mathlib.Core.Path.{_≡_};
 ghost use mathlib.Core.Bool.{cond};
 ghost use lib.Dec.{eqb};
 ghost use Rattle.transfer.specs.Constants.{busSize};
 ghost use Rattle.text.specs.Shown.{_⊕_, textOf};
 ghost use Rattle.lines.specs.Clock.{timeOf};
-ghost use Rattle.console.specs.Step.{accessText, advanced, askedOf, baText, bytesThere, counted, cycleLine, cycleOf, goOf, grantText, refusedCycle, runLine, started, timeAfter};
+ghost use Rattle.console.specs.Step.{accessText, advanced, askedOf, baText, bytesThere, counted, cycleLine, cycleOf, eitherOf, goOf, grantText, markIf, marksOf, passedText, refusedCycle, runLine, runText, started, timeAfter};
 
 const TRANSFER: u32 = 2;
 
@@ -21,17 +22,33 @@ const BUS_SIZE: usize = 65536;
 
 const STORAGE_SIZE: u32 = 524288;
 
-// What a cycle was granted, or that it was refused, the access to the bus that the controller had ready, and the offset in the
-// storage.
+const NO_MARKS: Passed = Passed {
+    c64: false,
+    expansion: false,
+};
+
+// What a cycle was granted, or that it was refused, the access to the bus that the controller had ready, the offset in the
+// storage, and which address ran over its top.
 pub struct Cycle {
     pub grant: u32,
     pub access: u32,
     pub offset: u32,
+    pub passed: Passed,
 }
 
-// The grant of the cycle that comes next, asked of a copy of the image. What the asking may write, the byte of a swap that is given
-// up, the cycle writes again itself; a cycle that is `lent` a bus of another length is refused and writes nothing, so nothing is
-// asked.
+// The two marks in a cycle's answer: its value has 2 and 4 more for them.
+fn marks(answer: u32) -> Passed
+    ensures { λ r. ⌜ r ≡ marksOf answer ⌝ }
+{
+    Passed {
+        c64: answer & 2 != 0,
+        expansion: answer & 4 != 0,
+    }
+}
+
+// The grant of the cycle that comes next, asked of a copy of the image; what passes a top only the cycle itself answers. What the
+// asking may write, the byte of a swap that is given up, the cycle writes again itself; a cycle that is `lent` a bus of another
+// length is refused and writes nothing, so nothing is asked.
 fn ask(inputs: u8, number: u64, image: &[u8], lent: usize, storage: &mut [u8]) -> Cycle
     ensures { λ r. ⌜ (r, now (storage .exit)) ≡ cond (eqb lent busSize) (askedOf inputs number (now (image .entry)) (now (storage .entry))) (refusedCycle 0, now (storage .entry)) ⌝ }
 {
@@ -48,6 +65,7 @@ fn ask(inputs: u8, number: u64, image: &[u8], lent: usize, storage: &mut [u8]) -
         grant,
         access,
         offset,
+        passed: NO_MARKS,
     }
 }
 
@@ -59,6 +77,7 @@ fn refused(answer: u32) -> Cycle
         grant: answer,
         access: 0,
         offset: 0,
+        passed: NO_MARKS,
     }
 }
 
@@ -78,7 +97,12 @@ pub fn run_cycle(
     let low = (inputs % 2) as u32;
     let answer = reu::reu_run_reu_cycle(image, bus, storage, high, number, low, phi1);
     if is_accepted(answer) {
-        return asked;
+        return Cycle {
+            grant: asked.grant,
+            access: asked.access,
+            offset: asked.offset,
+            passed: marks(answer),
+        };
     }
     refused(answer)
 }
@@ -136,14 +160,32 @@ fn bytes_there(line: Line, done: Cycle, bus: &[u8], storage: &[u8]) -> Line
         .hex2(byte(storage, offset))
 }
 
-// A cycle by its number, BA, the grant, the access and the bytes; a refused one made no access.
+fn mark_if(line: Line, shown: bool, mark: &[u8]) -> Line
+    ensures { λ r. ⌜ textOf r ≡ markIf (textOf line) shown (now (mark .entry)) ⌝ }
+{
+    if shown {
+        return line.text(mark);
+    }
+    line
+}
+
+// A mark for each address that ran over its top, behind what a line has.
+fn passed_text(line: Line, passed: Passed) -> Line
+    ensures { λ r. ⌜ textOf r ≡ passedText (textOf line) passed ⌝ }
+{
+    let marked = mark_if(line, passed.c64, b"  c64 passed FFFF");
+    mark_if(marked, passed.expansion, b"  exp passed FFFFFF")
+}
+
+// A cycle by its number, BA, the grant, the access, the bytes and the marks; a refused one made no access.
 pub fn cycle_line(clock: Clock, done: Cycle, bus: &[u8], storage: &[u8]) -> Line
     ensures { λ r. ⌜ textOf r ≡ cycleLine clock done (now (bus .entry)) (now (storage .entry)) ⌝ }
 {
     let line = ba_text(Line::new().decimal(clock.cycle), clock.letter());
     let granted = grant_text(line, done.grant);
     if is_accepted(done.grant) {
-        return bytes_there(access_text(granted, done.access), done, bus, storage);
+        let there = bytes_there(access_text(granted, done.access), done, bus, storage);
+        return passed_text(there, done.passed);
     }
     granted
 }
@@ -160,27 +202,39 @@ pub fn after(clock: Clock, grant: u32) -> Clock
 
 // ---- until the command ends
 
-// How far a run came.
+// How far a run came, and which address ran over its top in any of its cycles.
 pub struct Run {
     pub clock: Clock,
     pub granted: u64,
     pub held: u64,
+    pub passed: Passed,
+}
+
+fn either(one: Passed, other: Passed) -> Passed
+    ensures { λ r. ⌜ r ≡ eitherOf one other ⌝ }
+{
+    Passed {
+        c64: one.c64 | other.c64,
+        expansion: one.expansion | other.expansion,
+    }
 }
 
 // A cycle more, unless it was refused.
-fn count(run: Run, grant: u32) -> Run
-    ensures { λ r. ⌜ r ≡ counted run grant ⌝ }
+fn count(run: Run, done: Cycle) -> Run
+    ensures { λ r. ⌜ r ≡ counted run done ⌝ }
 {
     let clock = run.clock.next();
-    if grant == TRANSFER {
+    let passed = either(run.passed, done.passed);
+    if done.grant == TRANSFER {
         let granted = std::num::wrapping_add_u64(run.granted, 1);
         return Run {
             clock,
             granted,
             held: run.held,
+            passed,
         };
     }
-    if !is_accepted(grant) {
+    if !is_accepted(done.grant) {
         return run;
     }
     let held = std::num::wrapping_add_u64(run.held, 1);
@@ -188,6 +242,7 @@ fn count(run: Run, grant: u32) -> Run
         clock,
         granted: run.granted,
         held,
+        passed,
     }
 }
 
@@ -200,7 +255,7 @@ fn advance(run: Run, image: &mut [u8], bus: &mut [u8], storage: &mut [u8]) -> Ru
     }
     let clock = run.clock;
     let done = run_cycle(clock.inputs(), clock.cycle, image, bus, storage);
-    count(run, done.grant)
+    count(run, done)
 }
 
 // Cycles until the command has ended, and at most `limit`.
@@ -211,6 +266,7 @@ pub fn go(clock: Clock, limit: u32, image: &mut [u8], bus: &mut [u8], storage: &
         clock,
         granted: 0,
         held: 0,
+        passed: NO_MARKS,
     };
     let mut left = limit;
     while left > 0 {
@@ -220,9 +276,9 @@ pub fn go(clock: Clock, limit: u32, image: &mut [u8], bus: &mut [u8], storage: &
     run
 }
 
-// What to say of a run.
-pub fn run_line(run: Run, image: &[u8]) -> Line
-    ensures { λ r. ⌜ textOf r ≡ runLine run (now (image .entry)) ⌝ }
+// How many cycles a run had, and how it ended.
+fn run_text(run: Run, image: &[u8]) -> Line
+    ensures { λ r. ⌜ textOf r ≡ runText run (now (image .entry)) ⌝ }
 {
     let line = Line::new()
         .decimal(run.granted)
@@ -236,4 +292,11 @@ pub fn run_line(run: Run, image: &[u8]) -> Line
         return line.text(b" held: at the limit, and the command still runs");
     }
     refusal(line.text(b" held: the image is "), active)
+}
+
+// What to say of a run.
+pub fn run_line(run: Run, image: &[u8]) -> Line
+    ensures { λ r. ⌜ textOf r ≡ runLine run (now (image .entry)) ⌝ }
+{
+    passed_text(run_text(run, image), run.passed)
 }

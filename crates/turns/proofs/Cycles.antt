@@ -1,4 +1,4 @@
--- The grant that is shown is the one that the cycle takes.
+-- The grant that is shown is the one that the cycle takes, and the marks that are shown are those that it answers.
 use mathlib.Core.Path.{_≡_, refl, sym, ap, _∙_, subst}
 use mathlib.Core.Bool.{Bool, true, false, cond, false≢true}
 use mathlib.Core.List.{List}
@@ -8,19 +8,22 @@ use lib.Dec.{eqb, ltb}
 use lib.ListN.{length}
 use borrow.Author.Tests.{eq-eqb, eqb-false, eqb-true, le-ltb, lt-ltb, ltb-true}
 use Rattle.image.specs.Layout.{imageSize}
-use Rattle.controller.specs.declared.reu.Answer.{Answer}
 use Rattle.controller.specs.declared.reu.Reu.{Reu}
 use Rattle.transfer.specs.Bytes.{bit, bitOf}
-use Rattle.controller.specs.Calls.{busActionCall, cycleCall}
+use Rattle.transfer.specs.Dma.{neither, passedNumber}
+use Rattle.transfer.specs.declared.dma.Passed.{Passed}
+use Rattle.controller.specs.Calls.{busActionCall, cycleCall, numbered}
+use Rattle.controller.specs.TickDma.{Ticked}
 use Rattle.controller.specs.Refusals.{checked, refusalOf}
 use Rattle.image.specs.Open.{openImage}
 use Rattle.image.proofs.Opening.{opened-long}
 use Rattle.reu.specs.Exports.{changeBoth, changeStorage, changedBoth, changedStorage, code, flag, refusal, refusalUnit, reuBusAction, reuCycle}
 use Rattle.pane.specs.Answers.{accepted}
 use Rattle.pane.specs.Rows.{copyOf}
-use Rattle.console.specs.Step.{askedOf, cycleOf}
-use Rattle.turns.specs.Cycles.{GrantsAreTaken, answerFor}
-use Rattle.turns.proofs.Taken.{Left, Takes, calls-take}
+use Rattle.console.specs.declared.step.Cycle.{Cycle}
+use Rattle.console.specs.Step.{askedOf, cycleOf, marksOf}
+use Rattle.turns.specs.Cycles.{GrantsAreTaken, ShownAs, answerFor}
+use Rattle.turns.proofs.Taken.{Takes, calls-take}
 
 large : (n : ℕ) → (n ≡ 0 → ⊥) → accepted (refusal n) ≡ false
 large n bad = let l : refusalUnit ≤ refusal n = omega arith in le-ltb (refusal n) refusalUnit l
@@ -46,7 +49,7 @@ module _ (i m s : List ℕ) (high number low phi1 : ℕ) where
   abbrev k : ℕ
   k = refusalOf u (length m) (length s)
 
-  abbrev call : Answer × List ℕ × List ℕ
+  abbrev call : Ticked
   call = cycleCall u m s (flag high) (flag phi1) number (flag low)
 
   module _ (z : n ≡ 0) where
@@ -59,7 +62,7 @@ module _ (i m s : List ℕ) (high number low phi1 : ℕ) where
     whole true e ok = eqb-true k 0 e
     whole false e ok =
         let sum : refusal k + 0 ≡ refusal k = omega arith in
-        let no : accepted (code (call .0)) ≡ false = rw (e, sum) (large k (eqb-false k 0 e)) in
+        let no : accepted (code (numbered (call .0))) ≡ false = rw (e, sum) (large k (eqb-false k 0 e)) in
         absurd (false≢true (sym no ∙ ap (λ (x : ℕ × List ℕ × List ℕ × List ℕ). accepted (x .0)) (sym called) ∙ ok))
 
     module _ (y : k ≡ 0) where
@@ -91,18 +94,22 @@ module _ (inputs number : ℕ) (i m s : List ℕ) where
   abbrev grant : List ℕ → (ℕ × List ℕ × List ℕ)
   grant j = reuBusAction j s (input 2) (input 1) number
 
-  abbrev Shown : ℕ → Type 0
-  Shown a = (x .0 ≡ answerFor a) × (ltb a 2 ≡ true → _≡_ {A = Left} (x .1, x .2, x .3) (grant i .1, m, grant i .2))
+  abbrev Shown : ℕ → Passed → Type 0
+  Shown a p = ShownAs m x (grant i) a p
 
-  shown : (b : Bool) → accepted (x .0) ≡ b → Shown (cycleOf inputs number i m s .0 .grant)
+  abbrev done : Cycle
+  done = cycleOf inputs number i m s .0
+
+  shown : (b : Bool) → accepted (x .0) ≡ b → Shown (done .grant) (done .passed)
   unfolding cycleOf askedOf
   shown true ok =
       let it = taken i m s (input 2) number (input 0) (input 1) ok in
-      rw ok (subst (λ (j : List ℕ). Shown (grant j .0)) (copied i (it .0)) (it .1))
+      rw ok (subst (λ (j : List ℕ). Shown (grant j .0) (marksOf (x .0))) (copied i (it .0)) (it .1))
   shown false bad =
       let small : ltb (x .0) 2 ≡ true → accepted (x .0) ≡ true =
       λ h. let l : x .0 < 2 = ltb-true (x .0) 2 h in lt-ltb (x .0) refusalUnit (omega arith) in
-      let same : x .0 ≡ answerFor (x .0) = rw bad in
+      let none : x .0 ≡ x .0 + 0 = omega arith in
+      let same : x .0 ≡ answerFor (x .0) + passedNumber neither = rw bad none in
       rw bad (same, λ h. absurd (false≢true (sym bad ∙ small h)))
 
 pub grants-are-taken : GrantsAreTaken

@@ -12,7 +12,7 @@ pub fn steps_are_cycles()
     ensures { λ r. ⌜ StepsAreCycles ⌝ }
 {}
 
-// The grant that is shown is the one that the cycle takes.
+// The grant that is shown is the one that the cycle takes, and the marks that are shown are those that it answers.
 pub fn grants_are_taken()
     ensures { λ r. ⌜ GrantsAreTaken ⌝ }
 {}

@@ -8,7 +8,13 @@ use Rattle.console.proofs.step.count.Tie as tie
 returns : tie.Need-returns
 unfolding counted
 returns c =
-    rw (eq-eqb _ _ (c .before .if1 .taken), c .before .before .next .ensures, c .wrapping-add-u64 .ensures)
+    let its-either = c .before .before .before in
+    rw (
+      eq-eqb _ _ (c .before .if1 .taken),
+      its-either .before .next .ensures,
+      its-either .either .ensures,
+      c .wrapping-add-u64 .ensures,
+    )
 
 returns-2 : tie.Need-returns-2
 unfolding counted
@@ -21,15 +27,17 @@ unfolding counted
 returns-3 c =
     let its-accepted = c .before .before in
     let its-if1 = its-accepted .before in
+    let its-either = its-if1 .before .before in
     rw (
       ne-eqb _ _ (its-if1 .if1 .left),
       sym (its-accepted .is-accepted .ensures) ∙ not-false _ (c .before .if2 .left),
-      its-if1 .before .next .ensures,
+      its-either .before .next .ensures,
+      its-either .either .ensures,
       c .wrapping-add-u642 .ensures,
     )
 
 pub count-spec : {M : Type 1} → statement M
 count-spec =
     tie.close
-    (tie.spec (λ c κs. search needs) (λ c κs. search needs) returns (λ c κs. search needs) returns-2
+    (tie.spec (λ c κs. search needs) (λ c κs. search needs) (λ c κs. search needs) returns (λ c κs. search needs) returns-2
     (λ c κs. search needs) returns-3)

@@ -5,7 +5,7 @@ use Rattle.console.proofs.step.cycle_line.Tie as tie
 
 returns : tie.Need-returns
 returns c =
-    let its-if1 = c .before .before in
+    let its-if1 = c .before .before .before in
     let its-test = its-if1 .before in
     let its-grant = its-test .before in
     let its-ba = its-grant .before in
@@ -15,7 +15,8 @@ returns c =
     let its-args = its-new .before .before .before .args in
     made (its-args .clock) (its-args .done) _ _ (its-new .new .ensures) (its-number .decimal .ensures)
     (its-letter .letter .ensures) (its-ba .ba-text .ensures) (its-grant .grant-text .ensures)
-    (its-test .is-accepted .ensures) (its-if1 .if1 .taken) (c .before .access-text .ensures) (c .bytes-there .ensures)
+    (its-test .is-accepted .ensures) (its-if1 .if1 .taken) (c .before .before .access-text .ensures)
+    (c .before .bytes-there .ensures) (c .passed-text .ensures)
 
 returns-2 : tie.Need-returns-2
 returns-2 c =
@@ -34,4 +35,4 @@ pub cycle-line-spec : {M : Type 1} → statement M
 cycle-line-spec =
     tie.close
     (tie.spec (λ c κs. search needs) (λ c κs. search needs) (λ c κs. search needs) (λ c κs. search needs)
-    (λ c κs. search needs) (λ c κs. search needs) (λ c κs. search needs) (λ c κs. search needs) returns returns-2)
+    (λ c κs. search needs) (λ c κs. search needs) (λ c κs. search needs) (λ c κs. search needs) (λ c κs. search needs) returns returns-2)
