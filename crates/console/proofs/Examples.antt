@@ -7,7 +7,6 @@ use lib.ListN.{replicate}
 use Rattle.image.specs.Layout.{imageSize}
 use Rattle.controller.specs.Refusals.{checked}
 use Rattle.transfer.specs.Dma.{neither}
-use Rattle.transfer.specs.declared.dma.Passed.{Passed}
 use Rattle.image.specs.Open.{bytesOk, imageOk, openImage}
 use Rattle.reu.specs.Exports.{change, look}
 use Rattle.text.specs.Shown.{_⊕_, ascii, decimalUpTo, fillFrom, hexOf}
