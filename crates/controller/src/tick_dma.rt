@@ -27,9 +27,8 @@ impl Reu {
         let done = completed.done;
         let passed = completed.passed;
         let next = completed.dma;
-        let left = next.remaining;
         let shown = self.publish_live_counters(next);
-        if error & (!done & (left == 1)) {
+        if error & (!done & (next.remaining == 1)) {
             let reu = shown.running(next.with_tail());
             return TickAnswer {
                 flag: true,

@@ -10,8 +10,8 @@ unfolding advance completeByte
 returns c =
     let its-with-tail = c .before .with-tail in
     let its-if1 = c .before .before .if1 in
-    let its-publish-live-counters = c .before .before .before .publish-live-counters in
-    let its-complete-byte = c .before .before .before .before .before .before .complete-byte in
+    let its-publish-live-counters = c .before .before .before .before .publish-live-counters in
+    let its-complete-byte = c .before .before .before .before .before .before .before .complete-byte in
     when _ (rw (its-complete-byte .ensures) at (its-if1 .taken)) (rw (c .running .ensures, its-with-tail .ensures, its-publish-live-counters .ensures, its-complete-byte .ensures))
 
 returns-2 : tie.Need-returns-2
@@ -19,9 +19,9 @@ unfolding advance completeByte
 returns-2 c =
     let its-if2 = c .before .if2 in
     let its-if1 = c .before .before .if1 in
-    let its-publish-live-counters = c .before .before .before .publish-live-counters in
-    let its-complete-byte = c .before .before .before .before .before .before .complete-byte in
-    let its-is = c .before .before .before .before .before .before .before .is in
+    let its-publish-live-counters = c .before .before .before .before .publish-live-counters in
+    let its-complete-byte = c .before .before .before .before .before .before .before .complete-byte in
+    let its-is = c .before .before .before .before .before .before .before .before .is in
     unless _ (rw (its-complete-byte .ensures) at (its-if1 .left)) (when _ (rw (its-complete-byte .ensures) at (its-if2 .taken)) (rw (c .finish-dma .ensures, its-publish-live-counters .ensures, its-is .ensures, its-complete-byte .ensures)))
 
 returns-3 : tie.Need-returns-3
@@ -29,8 +29,8 @@ unfolding advance completeByte
 returns-3 c =
     let its-if2 = c .before .if2 in
     let its-if1 = c .before .before .if1 in
-    let its-publish-live-counters = c .before .before .before .publish-live-counters in
-    let its-complete-byte = c .before .before .before .before .before .before .complete-byte in
+    let its-publish-live-counters = c .before .before .before .before .publish-live-counters in
+    let its-complete-byte = c .before .before .before .before .before .before .before .complete-byte in
     unless _ (rw (its-complete-byte .ensures) at (its-if1 .left)) (unless _ (rw (its-complete-byte .ensures) at (its-if2 .left)) (rw (c .running2 .ensures, its-publish-live-counters .ensures, its-complete-byte .ensures)))
 
 pub advance-spec : {M : Type 1} → statement M
