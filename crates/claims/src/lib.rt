@@ -1,4 +1,4 @@
-// The claims about whole runs of the exported calls. Each function does nothing: its `ensures` is the claim.
+// The claims about whole runs of the exported calls, and one about bytes completed one after another. Each function does nothing: its `ensures` is the claim.
 ghost use Rattle.claims.specs.GrantedCycles.{GrantedCycles};
 ghost use Rattle.claims.specs.PassedTop.{PassedTop};
 ghost use Rattle.claims.specs.SavedMachine.{EveryStateOpens, RoundTrips};
