@@ -5,6 +5,7 @@ pub mod Flags
 pub mod Opening
 pub mod ByBytes
 pub mod Bytes
+pub mod Remaining
 pub mod Packed
 pub mod Unpacked
 pub mod Sound

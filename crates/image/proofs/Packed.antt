@@ -17,7 +17,7 @@ use Rattle.transfer.specs.declared.dma.SwapPhase.the-variants.{ReadC64, WriteC6
 use Rattle.controller.specs.Reu.{withRegs}
 use Rattle.transfer.specs.Dma.{typeNumber, typeOf}
 use Rattle.controller.specs.Refusals.{wellFormed}
-use Rattle.controller.specs.Inner.{InRangeDma}
+use Rattle.controller.specs.Inner.{InRange, InRangeDma}
 use Rattle.controller.proofs.WellFormed.{well-range, well-shadow, well-delay}
 use Rattle.image.specs.Radix.{below}
 use Rattle.transfer.specs.Constants.{registerCount}
@@ -30,6 +30,7 @@ use Rattle.image.proofs.Fields.{Roomy, roomy-test, bytes-below, below-a
 use Rattle.image.proofs.Flags.{flag-back, flags-below}
 use Rattle.image.specs.Inner.{gets}
 use Rattle.image.proofs.Gets.{gets-all}
+use Rattle.image.proofs.Remaining.{remaining-back}
 use Rattle.image.proofs.Opening.{open-good}
 
 type-back : (t : TransferType) → typeOf (typeNumber t) ≡ t
@@ -99,13 +100,13 @@ all-below (x ∷ l) h (suc j) = all-below l (h .1) j
 -- ---- the controller of its numbers is the controller
 
 -- the transfer of its numbers, behind the other fields and before the count
-transfer-back : (d : DmaState) (g : ℕ) → transferOf (replicate kind 0 ++ (transferNumbers (Running d) ++ (g ∷ []))) ≡ d
-transfer-back d g = λ i. record {
+transfer-back : (d : DmaState) (g : ℕ) → InRange d → transferOf (replicate kind 0 ++ (transferNumbers (Running d) ++ (g ∷ []))) ≡ d
+transfer-back d g s = λ i. record {
   «transfer_type» = type-back (d .«transfer_type») i;
   «swap_phase» = phase-back (d .«swap_phase») i;
   «c64_addr» = d .«c64_addr»;
   «reu_addr» = d .«reu_addr»;
-  remaining = d .remaining;
+  remaining = remaining-back (d .remaining) (s .low) (s .high) i;
   «fix_c64» = flag-back (optionBits d) 0 (omega arith) i;
   «fix_reu» = flag-back (optionBits d) 1 (omega arith) i;
   autoload = flag-back (optionBits d) 2 (omega arith) i;
@@ -115,9 +116,9 @@ transfer-back d g = λ i. record {
   «verify_tail» = flag-back (optionBits d) 5 (omega arith) i;
 }
 
-dma-back : (m : Dma) (g : ℕ) → cond (eqb (present m) 0) Idle (Running (transferOf (replicate kind 0 ++ (transferNumbers m ++ (g ∷ []))))) ≡ m
-dma-back Idle g = refl
-dma-back (Running d) g = ap Running (transfer-back d g)
+dma-back : (m : Dma) (g : ℕ) → InRangeDma m → cond (eqb (present m) 0) Idle (Running (transferOf (replicate kind 0 ++ (transferNumbers m ++ (g ∷ []))))) ≡ m
+dma-back Idle g s = refl
+dma-back (Running d) g s = ap Running (transfer-back d g s)
 
 granted-back : (m : Dma) (g : ℕ) → at (replicate kind 0 ++ (transferNumbers m ++ (g ∷ []))) grantedCycles ≡ g
 granted-back Idle g = refl
@@ -131,8 +132,8 @@ module _ (r : Reu) where
   abbrev listed : Reu
   listed = withRegs r (gets 0 registerCount (r .regs))
 
-  listed-back : controllerOf (numbersOf listed) ≡ listed
-  listed-back = λ i. record {
+  listed-back : InRangeDma (r .dma) → controllerOf (numbersOf listed) ≡ listed
+  listed-back s = λ i. record {
     regs = gets 0 registerCount (r .regs);
     «shadow_c64_addr» = r .«shadow_c64_addr»;
     «shadow_reu_addr» = r .«shadow_reu_addr»;
@@ -148,7 +149,7 @@ module _ (r : Reu) where
     «swap_refresh» = flag-back (moreBits r) 0 (omega arith) i;
     «swap_release_pending» = flag-back (moreBits r) 1 (omega arith) i;
     «swap_read_delay» = r .«swap_read_delay»;
-    dma = dma-back (r .dma) (r .«granted_cycles») i;
+    dma = dma-back (r .dma) (r .«granted_cycles») s i;
     «granted_cycles» = granted-back (r .dma) (r .«granted_cycles») i;
   }
 
@@ -163,7 +164,7 @@ module _ (r : Reu) (typed : Typed r) (ok : wellFormed r ≡ true) where
 
   image-back : reuAt (packImage r) ≡ r
   unfolding reuAt
-  image-back = ap controllerOf numbers-back ∙ subst (λ (u : Reu). controllerOf (numbersOf u) ≡ u) listed-is (listed-back r)
+  image-back = ap controllerOf numbers-back ∙ subst (λ (u : Reu). controllerOf (numbersOf u) ≡ u) listed-is (listed-back r (well-range r ok))
 
   idle-ok : idleOk (numbersOf r) ≡ true
   idle-ok = subst (λ (u : Reu). idleOk (numbersOf u) ≡ true) listed-is (idle-good (r .dma) (r .«granted_cycles»))

@@ -24,6 +24,7 @@ use Rattle.image.proofs.Fields.{and-left, and-right, below-test, below-
 use Rattle.image.proofs.Flags.{flags-back}
 use Rattle.image.specs.Inner.{gets}
 use Rattle.image.proofs.Gets.{gets-slice, gets-rest}
+use Rattle.image.proofs.Remaining.{two-bytes-back}
 use Rattle.image.proofs.Opening.{opened-is, opened-long, opened-ok}
 
 type-number-back : (n : ℕ) → n < 4 → typeNumber (typeOf n) ≡ n
@@ -66,7 +67,7 @@ module _ (ns : List ℕ) (long : length ns ≡ count) (fit : Below (values field
   moving-tail some = (
     omega (arith, under transfer (omega arith), some),
     λ i. type-number-back (at ns kind) (under kind (omega arith)) i ∷ phase-number-back (at ns phase) (under phase (omega arith)) i
-        ∷ at ns transferC64 ∷ at ns transferExp ∷ at ns remaining ∷ at ns latch ∷ flags-back 5 (at ns options) (under options (omega arith)) i ∷ [],
+        ∷ at ns transferC64 ∷ at ns transferExp ∷ two-bytes-back (at ns remaining) (under remaining (omega arith)) i ∷ at ns latch ∷ flags-back 5 (at ns options) (under options (omega arith)) i ∷ [],
   )
 
   tail : Tail (dmaIn ns)

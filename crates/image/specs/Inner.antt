@@ -10,10 +10,9 @@ use Rattle.image.specs.Layout.{fields, kind, transferFields}
 abbrev pub transferPart : List (ℕ × ℕ)
 transferPart = take transferFields (drop kind fields)
 
--- numbers that three bytes hold
-pub record Room (d : DmaState) : Type 0 where
-  pub exp : d .«reu_addr» .0 < expansionLimit
-  pub left : d .remaining < expansionLimit
+-- a number that three bytes hold
+abbrev pub Room : DmaState → Type 0
+Room d = d .«reu_addr» .0 < expansionLimit
 
 -- n elements of s, from i on
 abbrev pub gets : ℕ → ℕ → List ℕ → List ℕ

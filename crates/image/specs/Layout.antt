@@ -1,5 +1,5 @@
 -- The image record: one list of fields, from which packing, opening, the ranges and every place follow.
-use Rattle.controller.specs.Prelude.{ℕ, _+_, _-_, _^_, Bool, cond, List, [], _∷_, eqb, getD, length, replicate}
+use Rattle.controller.specs.Prelude.{ℕ, _+_, _-_, _%_, _^_, Bool, cond, List, [], _∷_, eqb, getD, length, replicate}
 use Rattle.transfer.specs.declared.dma.SwapPhase.{SwapPhase}
 use Rattle.transfer.specs.declared.dma.SwapPhase.the-variants.{ReadC64, WriteC64}
 use Rattle.transfer.specs.declared.dma.DmaState.{DmaState}
@@ -10,13 +10,14 @@ use mathlib.Core.List.{_++_, map}
 use lib.ListN.{take}
 use Rattle.transfer.specs.Constants.{registerCount, busSize, expansionLimit, fullLength}
 use Rattle.transfer.specs.Bytes.{bit, bitOf}
-use Rattle.transfer.specs.Dma.{typeNumber, typeOf}
+use Rattle.transfer.specs.Dma.{typeNumber, typeOf, lengthOf}
 use Rattle.image.specs.Radix.{joined}
 use Rattle.image.specs.Fields.{size, laid, lifted}
 
 -- "low byte first: 0-10 registers; 11-12, 13-15, 16-17 the shadows C64, expansion, length; 18 from bit 0: ..; 19 ..; 20 delay 0-2; 21
 -- transfer present 0/1; 22 type 0-3; 23 phase ..; 24-25 C64 address; 26-28 expansion address; 29-31 remaining; 32 latch; 33 from bit 0: ..".
--- L1: "The image grows to 38 bytes, the count at 34-37". Of each field its width in bytes, and how many values it has
+-- L3: "Remaining goes into image bytes 29-30, .. and later fields move down by one. The image is 37 bytes, the count at 33-36". Of each field
+-- its width in bytes, and how many values it has
 abbrev pub fields : List (ℕ × ℕ)
 fields =
     replicate registerCount (1, 256)
@@ -31,7 +32,7 @@ fields =
     ∷ (1, 2)  -- phase
     ∷ (2, busSize)  -- C64 address
     ∷ (3, expansionLimit)  -- expansion address
-    ∷ (3, fullLength + 1)  -- remaining
+    ∷ (2, fullLength)  -- remaining
     ∷ (1, 256)  -- latch
     ∷ (1, 2 ^ 6)  -- options
     ∷ (4, 2 ^ 32)  -- granted cycles
@@ -116,7 +117,7 @@ flagBits r =
 abbrev pub moreBits : Reu → List Bool
 moreBits r = r .«swap_refresh» ∷ r .«swap_release_pending» ∷ []
 
--- "33 from bit 0: fix C64, fix expansion, Autoload, first byte, odd parity, tail, others 0"
+-- "from bit 0: fix C64, fix expansion, Autoload, first byte, odd parity, tail, others 0"
 abbrev pub optionBits : DmaState → List Bool
 optionBits d =
     d .«fix_c64» ∷ d .«fix_reu» ∷ d .autoload ∷ d .«first_byte» ∷ d .«read_clock_odd» ∷ d .«verify_tail» ∷ []
@@ -125,12 +126,16 @@ optionBits d =
 abbrev pub transferFields : ℕ
 transferFields = options - transfer
 
--- "Without a transfer, 22-33 are 0"
+-- L3: "0 meaning 65,536"
+abbrev pub remainingNumber : ℕ → ℕ
+remainingNumber n = n % fullLength
+
+-- L3: "without a transfer 22-32 are 0"
 abbrev pub transferNumbers : Dma → List ℕ
 transferNumbers Idle = replicate transferFields 0
 transferNumbers (Running d) =
-    typeNumber (d .«transfer_type») ∷ phaseNumber (d .«swap_phase») ∷ d .«c64_addr» .0 ∷ d .«reu_addr» .0 ∷ d .remaining ∷ d .latch
-    ∷ flagsOf (optionBits d) ∷ []
+    typeNumber (d .«transfer_type») ∷ phaseNumber (d .«swap_phase») ∷ d .«c64_addr» .0 ∷ d .«reu_addr» .0
+    ∷ remainingNumber (d .remaining) ∷ d .latch ∷ flagsOf (optionBits d) ∷ []
 
 -- the numbers behind the registers, of a controller that runs m
 abbrev pub otherWith : Reu → Dma → List ℕ
@@ -156,13 +161,14 @@ at s i = getD s i 0
 abbrev pub phaseOf : ℕ → SwapPhase
 phaseOf n = cond (eqb n 0) ReadC64 WriteC64
 
+-- a remaining of 0 means 65,536 as a length of 0 does
 abbrev pub transferOf : List ℕ → DmaState
 transferOf ns = record {
   «transfer_type» = typeOf (at ns kind);
   «swap_phase» = phaseOf (at ns phase);
   «c64_addr» = record { 0 = at ns transferC64 };
   «reu_addr» = record { 0 = at ns transferExp };
-  remaining = at ns remaining;
+  remaining = lengthOf (at ns remaining);
   «fix_c64» = bit (at ns options) 0;
   «fix_reu» = bit (at ns options) 1;
   autoload = bit (at ns options) 2;

@@ -26,7 +26,7 @@ bytesOk s = below (values fields) (lifted fields s) && idleOk (lifted fields s)
 unfoldable pub imageOk : List ℕ → Bool
 imageOk s = bytesOk s && wellFormed (reuAt s)
 
--- L1: "Refusal 1 reads 38". "1: image length isn't 34. 2: a field outside the ranges above, .."
+-- L3: "Refusal 1 reads 37". "1: image length isn't 34. 2: a field outside the ranges above, .."
 abbrev pub openRefusal : List ℕ → ℕ
 openRefusal s = firstRefusal ((eqb (length s) imageSize, 1) ∷ (imageOk s, 2) ∷ [])
 

@@ -25,7 +25,7 @@ pub const TRANSFER_EXPANSION: usize = TRANSFER_C64 + 2;
 
 pub const REMAINING: usize = TRANSFER_EXPANSION + 3;
 
-pub const LATCH: usize = REMAINING + 3;
+pub const LATCH: usize = REMAINING + 2;
 
 pub const OPTIONS: usize = LATCH + 1;
 

@@ -20,6 +20,7 @@ use transfer::C64Address;
 use transfer::Dma;
 use transfer::DmaState;
 use transfer::ExpansionAddress;
+use transfer::FULL_64K_TRANSFER_LENGTH;
 use transfer::SwapPhase;
 use transfer::TransferType;
 ghost use mathlib.Core.Bool.{true};
@@ -160,7 +161,13 @@ fn put_transfer(out: &mut [u8], d: DmaState)
     put(out, PHASE, TRANSFER_C64, phase_number(phase) as u32);
     put(out, TRANSFER_C64, TRANSFER_EXPANSION, d.c64_addr.0 as u32);
     put(out, TRANSFER_EXPANSION, REMAINING, d.reu_addr.0);
-    put(out, REMAINING, LATCH, d.remaining);
+    // Two bytes of 0 mean 65,536.
+    put(
+        out,
+        REMAINING,
+        LATCH,
+        d.remaining % FULL_64K_TRANSFER_LENGTH,
+    );
     put(out, LATCH, OPTIONS, d.latch as u32);
     put(out, OPTIONS, GRANTED_CYCLES, options(d) as u32);
 }

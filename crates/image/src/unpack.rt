@@ -1,6 +1,7 @@
 // The controller that an image holds, field by field, and whether each field is in its range.
 use crate::layout;
 use controller::Reu;
+use regs::length_of;
 use transfer::C64Address;
 use transfer::Dma;
 use transfer::DmaState;
@@ -61,12 +62,13 @@ fn transfer_at(image: &[u8]) -> DmaState
     let phase = phase_of(image[layout::PHASE]);
     let c64 = C64Address(get(image, layout::TRANSFER_C64, layout::TRANSFER_EXPANSION) as u16);
     let exp = ExpansionAddress(get(image, layout::TRANSFER_EXPANSION, layout::REMAINING));
+    let left = length_of(get(image, layout::REMAINING, layout::LATCH) as u16);
     DmaState {
         transfer_type: kind,
         swap_phase: phase,
         c64_addr: c64,
         reu_addr: exp,
-        remaining: get(image, layout::REMAINING, layout::LATCH),
+        remaining: left,
         fix_c64: options & 0x01 != 0,
         fix_reu: options & 0x02 != 0,
         autoload: options & 0x04 != 0,
@@ -144,13 +146,11 @@ fn ranges_ok(image: &[u8]) -> bool
     requires { ⌜ length (now image) ≡ imageSize ⌝ }
     ensures { λ r. ⌜ r ≡ below (values fields) (lifted fields (now (image .entry))) ⌝ }
 {
-    let left = get(image, layout::REMAINING, layout::LATCH);
     (image[layout::MORE_FLAGS] < 4)
         & (image[layout::DELAY] < 3)
         & (image[layout::TRANSFER] < 2)
         & (image[layout::TYPE] < 4)
         & (image[layout::PHASE] < 2)
-        & (left < 65537)
         & (image[layout::OPTIONS] < 64)
 }
 

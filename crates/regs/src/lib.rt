@@ -41,4 +41,5 @@ pub use registers::with_high16;
 pub use registers::with_high32;
 pub use registers::with_low16;
 pub use registers::with_low32;
+pub use start_dma::length_of;
 pub use start_dma::requested;

@@ -5,7 +5,7 @@ use lib.ListN.{length}
 use lib.Seq.{sets, length-sets}
 use Rattle.image.specs.Fields.{laid}
 use Rattle.image.specs.Inner.{transferPart}
-use Rattle.image.specs.Layout.{placeOf, kind, phase, transferC64, transferExp, remaining, latch, options, transferNumbers}
+use Rattle.image.specs.Layout.{placeOf, kind, phase, transferC64, transferExp, remaining, latch, options, remainingNumber, transferNumbers}
 use Rattle.transfer.specs.declared.dma.Dma.the-variants.{Running}
 use Rattle.image.proofs.ByBytes.{stored}
 use borrow.Author.Needs.{needs}
@@ -13,7 +13,7 @@ use Rattle.image.proofs.pack.put_transfer.Statement.{statement}
 use Rattle.image.proofs.pack.put_transfer.Tie as tie
 
 start : tie.After-slice-known8 → tie.Start
-start c = c .before .before .before .before .before .before .before .before .before .before .before .before .before .before .before .before .before .before .before .before .before .before .before .before .before .before .before .before .before .before .before .before .before .before
+start c = c .before .before .before .before .before .before .before .before .before .before .before .before .before .before .before .before .before .before .before .before .before .before .before .before .before .before .before .before .before .before .before .before .before .before .before
 
 -- the stores one after another
 stores : (c : tie.After-slice-known8) → c .before .before .put7 .last .0 ≡ sets (start c .args .out .now) (placeOf kind) (laid transferPart (transferNumbers (Running (start c .args .d))))
@@ -23,7 +23,7 @@ stores c =
     let at-options = at-put7 .before in
     let at-put6 = at-options .before .before .before .before in
     let at-put5 = at-put6 .before .before .before .before .before in
-    let at-put4 = at-put5 .before .before .before .before in
+    let at-put4 = at-put5 .before .before .before .before .before in
     let at-put3 = at-put4 .before .before .before .before in
     let at-put2 = at-put3 .before .before .before .before .before in
     let at-phase-number = at-put2 .before in
@@ -35,7 +35,7 @@ stores c =
     let l2 = at-put2 .put2 .ensures ∙ ap₂ (stored phase) l1 (at-phase-number .phase-number .ensures) in
     let l3 = at-put3 .put3 .ensures ∙ ap (λ (l : List ℕ). stored transferC64 l (d .«c64_addr» .0)) l2 in
     let l4 = at-put4 .put4 .ensures ∙ ap (λ (l : List ℕ). stored transferExp l (d .«reu_addr» .0)) l3 in
-    let l5 = at-put5 .put5 .ensures ∙ ap (λ (l : List ℕ). stored remaining l (d .remaining)) l4 in
+    let l5 = at-put5 .put5 .ensures ∙ ap (λ (l : List ℕ). stored remaining l (remainingNumber (d .remaining))) l4 in
     let l6 = at-put6 .put6 .ensures ∙ ap (λ (l : List ℕ). stored latch l (d .latch)) l5 in
     at-put7 .put7 .ensures ∙ ap₂ (stored options) l6 (at-options .options .ensures)
 

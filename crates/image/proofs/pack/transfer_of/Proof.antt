@@ -9,9 +9,6 @@ use borrow.Author.Needs.{needs}
 use Rattle.image.proofs.pack.transfer_of.Statement.{statement}
 use Rattle.image.proofs.pack.transfer_of.Tie as tie
 
-room : (d : DmaState) → InRange d → Room d
-room d h = record { exp = h .addr; left = omega (arith, h .high) }
-
 returns : tie.Need-returns
 returns c =
     let none : c .before .before .before .args .m ≡ Idle = cc in
@@ -22,7 +19,7 @@ returns-2 c =
     let at-start = c .before .before .before in
     let d = c .before .m .given .0 .0 in
     let some : at-start .args .m ≡ Running d = cc in
-    (ap transferNumbers (sym some), room d (subst InRangeDma some (at-start .pre)))
+    (ap transferNumbers (sym some), subst InRangeDma some (at-start .pre) .addr)
 
 pub transfer-of-spec : {M : Type 1} → statement M
 transfer-of-spec =
