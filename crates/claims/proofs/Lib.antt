@@ -14,3 +14,4 @@ pub mod SwapTwice
 pub mod Sessions
 pub mod GrantedCycles
 pub mod PassedTop
+pub mod RemainingBytes

@@ -18,7 +18,7 @@ use Rattle.claims.specs.SwapTwice.{byte, register, granted}
 use Rattle.claims.specs.SavedMachine.{OnOneImage}
 use Rattle.claims.specs.Sessions.{begin, r4, r16, run}
 
--- "the count at 34-37", the low byte first
+-- L3: "the count at 33-36", the low byte first
 abbrev pub number : Held → ℕ
 number k =
     word (byte k countByte) (byte k (countByte + 1)) + 65536 * word (byte k (countByte + 2)) (byte k (countByte + 3))

@@ -5,3 +5,4 @@ pub mod SavedMachine
 pub mod Sessions
 pub mod GrantedCycles
 pub mod PassedTop
+pub mod RemainingBytes

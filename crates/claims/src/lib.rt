@@ -1,6 +1,8 @@
-// The claims about whole runs of the exported calls, and one about bytes completed one after another. Each function does nothing: its `ensures` is the claim.
+// The claims about whole runs of the exported calls, one about bytes completed one after another, and those about saved machines. Each function does
+// nothing: its `ensures` is the claim.
 ghost use Rattle.claims.specs.GrantedCycles.{GrantedCycles};
 ghost use Rattle.claims.specs.PassedTop.{PassedTop};
+ghost use Rattle.claims.specs.RemainingBytes.{RemainingBytes};
 ghost use Rattle.claims.specs.SavedMachine.{EveryStateOpens, RoundTrips};
 ghost use Rattle.claims.specs.Sessions.{Sessions};
 ghost use Rattle.claims.specs.SwapTwice.{SwapTwice};
@@ -34,4 +36,9 @@ pub fn granted_cycles()
 // Of bytes completed one after another, as many as there are addresses or fewer, exactly one reports that the address passed its top, if it did.
 pub fn passed_top()
     ensures { λ r. ⌜ PassedTop ⌝ }
+{}
+
+// Each remaining from 1 to 65,536 has its own pair of bytes in an image and comes back from it, and each pair of bytes has its own remaining.
+pub fn remaining_bytes()
+    ensures { λ r. ⌜ RemainingBytes ⌝ }
 {}
