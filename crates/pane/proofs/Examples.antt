@@ -4,18 +4,18 @@ use mathlib.Core.List.{List, [], _∷_, _++_}
 use Prim.Native.Nat.{ℕ}
 use lib.ListN.{replicate}
 use Rattle.controller.specs.Calls.{dmaActiveCall}
-use Rattle.transfer.specs.Dma.{typeOf}
+use Rattle.transfer.specs.Dma.{lengthOf, typeOf}
 use Rattle.controller.specs.Refusals.{checked, refusalOf, wellFormed}
 use Rattle.image.specs.Layout.{imageSize, reuAt}
 use Rattle.image.specs.Open.{bytesOk, imageOk, openImage}
 use Rattle.reu.specs.Exports.{code, look, reuDmaActive}
-use Rattle.pane.specs.Rows.{copyOf, flagsRow, grantedIn, grantedRow, heldRow, refusedRow, rowOf, runningRow, transferRow}
+use Rattle.pane.specs.Rows.{copyOf, flagsRow, grantedIn, grantedRow, heldRow, refusedRow, remainingIn, rowOf, runningRow, transferRow}
 use Rattle.text.specs.Shown.{_⊕_, ascii, bitsFrom, decimalUpTo, hexOf}
 
 -- flags 0D: enabled, attached, armed; a swap of two bytes in its write phase at bus 2000 and expansion F80000, with 01020304 cycles granted
 unfoldable image : List ℕ
 image =
-    replicate 18 0 ++ (0x0D ∷ 0 ∷ 0 ∷ 1 ∷ 2 ∷ 1 ∷ 0x00 ∷ 0x20 ∷ 0x00 ∷ 0x00 ∷ 0xF8 ∷ 2 ∷ 0 ∷ 0 ∷ 0x33 ∷ 0x1C
+    replicate 18 0 ++ (0x0D ∷ 0 ∷ 0 ∷ 1 ∷ 2 ∷ 1 ∷ 0x00 ∷ 0x20 ∷ 0x00 ∷ 0x00 ∷ 0xF8 ∷ 2 ∷ 0 ∷ 0x33 ∷ 0x1C
     ∷ 0x04 ∷ 0x03 ∷ 0x02 ∷ 0x01 ∷ [])
 
 armed : flagsRow image 12 ≡ ascii "machine      enabled=1 attached=1 armed=1"
@@ -36,8 +36,17 @@ unfolding image transferRow _⊕_
 swaps = refl
 
 place : runningRow image 19 ≡ ascii "  at         c64 2000 exp F80000 left 00002"
-unfolding image runningRow hexOf _⊕_
+unfolding image runningRow remainingIn lengthOf hexOf _⊕_
 place = refl
+
+-- two bytes of 0 are 65,536, and FF FF are 65,535; a transfer is there since byte 21 is 1
+left-all : runningRow (replicate 21 0 ++ (1 ∷ replicate 15 0)) 19 ≡ ascii "  at         c64 0000 exp 000000 left 10000"
+unfolding runningRow remainingIn lengthOf hexOf _⊕_
+left-all = refl
+
+left-less : runningRow (replicate 21 0 ++ (1 ∷ replicate 7 0 ++ (0xFF ∷ 0xFF ∷ replicate 6 0))) 19 ≡ ascii "  at         c64 0000 exp 000000 left 0FFFF"
+unfolding runningRow remainingIn lengthOf hexOf _⊕_
+left-less = refl
 
 latch : runningRow image 20 ≡ ascii "  latch      33 first=1 odd=1 tail=0"
 unfolding image runningRow bitsFrom hexOf _⊕_
@@ -47,15 +56,19 @@ options : runningRow image 21 ≡ ascii "  options    fixc64=0 fixexp=0 load=1"
 unfolding image runningRow bitsFrom _⊕_
 options = refl
 
--- ---- images that are accepted or refused: this one runs a command, 34 bytes, as before L1, are too few, and ones alone are out of range
+-- ---- images that are accepted or refused: this one runs a command, 34 bytes, as before L1, are too few, 38, as before L3, too many, and ones alone are out of range
 
 runs : reuDmaActive image ≡ 1
-unfolding image look checked openImage imageOk bytesOk wellFormed dmaActiveCall refusalOf code reuAt typeOf
+unfolding image look checked openImage imageOk bytesOk wellFormed dmaActiveCall refusalOf code reuAt typeOf lengthOf
 runs = refl
 
 too-short : reuDmaActive (replicate 34 0) ≡ 16777216
 unfolding look checked openImage
 too-short = refl
+
+too-long : reuDmaActive (replicate 38 0) ≡ 16777216
+unfolding look checked openImage
+too-long = refl
 
 out-of-range : reuDmaActive (replicate imageSize 255) ≡ 33554432
 unfolding look checked openImage imageOk bytesOk

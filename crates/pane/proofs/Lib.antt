@@ -1,5 +1,5 @@
 pub mod Copies
 pub mod Examples
-pub mod Granted
+pub mod Numbers
 pub mod Pane
 pub mod Refused

@@ -8,7 +8,7 @@ use Rattle.transfer.specs.Bytes.{long, word}
 use Rattle.transfer.specs.Constants.{status, command, c64Low, expLow, lengthLow, interruptMask, addressControl}
 use Rattle.controller.specs.Cycle.{mostGranted}
 use Rattle.image.specs.Fields.{lifted}
-use Rattle.image.specs.Layout.{at, fields, imageSize, placeOf, shadowC64, shadowExp, shadowLength, flags, moreFlags, delay, transfer, kind, phase, transferC64, transferExp, remaining, latch, options, grantedCycles}
+use Rattle.image.specs.Layout.{at, fields, imageSize, placeOf, shadowC64, shadowExp, shadowLength, flags, moreFlags, delay, transfer, kind, phase, transferC64, transferExp, latch, options, grantedCycles, transferOf}
 use Rattle.reu.specs.Exports.{reuDebugRegister, reuDmaActive, reuRead}
 use Rattle.pane.specs.Answers.{accepted, refusedBy}
 use Rattle.text.specs.Bytes.{byteAt}
@@ -98,13 +98,17 @@ transferRow i =
     (cond (eqb (byteAt i (placeOf phase)) 0) (t ⊕ typeName (byteAt i (placeOf kind)) ⊕ ascii ", read phase")
     (t ⊕ typeName (byteAt i (placeOf kind)) ⊕ ascii ", write phase"))
 
+-- what remains, as opening the image takes it; L3: "0 meaning 65,536"
+unfoldable pub remainingIn : List ℕ → ℕ
+remainingIn i = transferOf (lifted fields i) .remaining
+
 -- its addresses and what remains; its latch and state; its options. No bytes where there is no transfer
 unfoldable pub runningRow : List ℕ → ℕ → List ℕ
 runningRow i n =
     cond (eqb (byteAt i (placeOf transfer)) 0) []
     (cond (eqb n 19)
     ([] ⊕ ascii "  at         c64 " ⊕ hexOf 4 (wordAt i (placeOf transferC64)) ⊕ ascii " exp " ⊕ hexOf 6 (longAt i (placeOf transferExp)) ⊕ ascii " left "
-    ⊕ hexOf 5 (longAt i (placeOf remaining)))
+    ⊕ hexOf 5 (remainingIn i))
     (cond (eqb n 20)
     ([] ⊕ ascii "  latch      " ⊕ hexOf 2 (byteAt i (placeOf latch)) ⊕ bitsOf " first=3 odd=4 tail=5" (byteAt i (placeOf options)))
     (cond (eqb n 21) ([] ⊕ bitsOf "  options    fixc64=0 fixexp=1 load=2" (byteAt i (placeOf options))) [])))

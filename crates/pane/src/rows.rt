@@ -3,6 +3,7 @@
 use crate::answers::is_accepted;
 use crate::answers::refusal;
 use image::layout;
+use regs::length_of;
 use text::bytes::byte;
 use text::line::Line;
 ghost use mathlib.Core.Path.{_≡_};
@@ -10,7 +11,7 @@ ghost use mathlib.Core.List.{[]};
 ghost use Prim.Native.Nat.{_%_, _<_, _≤_};
 ghost use lib.ListN.{length};
 ghost use Rattle.image.specs.Layout.{imageSize, placeOf, transferExp};
-ghost use Rattle.pane.specs.Rows.{copyOf, flagsRow, grantedIn, grantedRow, heldRow, longAt, reads, refusedRow, registerName, registerRow, rowOf, runningRow, transferRow, typeName, wordAt};
+ghost use Rattle.pane.specs.Rows.{copyOf, flagsRow, grantedIn, grantedRow, heldRow, longAt, reads, refusedRow, remainingIn, registerName, registerRow, rowOf, runningRow, transferRow, typeName, wordAt};
 ghost use Rattle.pane.specs.Rows.{held as Rows·held, spelled as Rows·spelled};
 ghost use Rattle.text.specs.Shown.{_⊕_, ascii, bitsOf, hexOf, textOf};
 
@@ -229,6 +230,13 @@ fn transfer_row(image: &[u8]) -> Line
     typed.text(b", write phase")
 }
 
+// Two bytes, as those of a length.
+fn remaining(image: &[u8]) -> u32
+    ensures { λ r. ⌜ r ≡ remainingIn (now (image .entry)) ⌝ }
+{
+    length_of(word(image, layout::REMAINING) as u16)
+}
+
 fn place_row(c64: u32, expansion: u32, left: u32) -> Line
     ensures { λ r. ⌜ textOf r ≡ [] ⊕ ascii "  at         c64 " ⊕ hexOf 4 c64 ⊕ ascii " exp " ⊕ hexOf 6 expansion ⊕ ascii " left " ⊕ hexOf 5 left ⌝ }
 {
@@ -253,7 +261,7 @@ fn running_row(image: &[u8], row: usize) -> Line
         19 => place_row(
             word(image, layout::TRANSFER_C64),
             long(image, layout::TRANSFER_EXPANSION),
-            long(image, layout::REMAINING),
+            remaining(image),
         ),
         20 => line.text(b"  latch      ")
             .hex2(byte(image, layout::LATCH))

@@ -1,5 +1,5 @@
 use borrow.Author.Needs.{needs}
-use Rattle.pane.proofs.Granted.{halves}
+use Rattle.pane.proofs.Numbers.{halves}
 use Rattle.pane.proofs.rows.granted.Statement.{statement}
 use Rattle.pane.proofs.rows.granted.Tie as tie
 

@@ -21,7 +21,7 @@ returns-2 c =
       its-match .keys1,
       ← c .before .before .before .word .ensures .0,
       ← c .before .before .long .ensures,
-      ← c .before .long2 .ensures,
+      ← c .before .remaining .ensures,
     )
     (c .place-row .ensures)
 

@@ -1,14 +1,15 @@
--- The count of granted cycles: the number of the image's list, and the four bytes that the row reads.
+-- The numbers of the image's list, and the bytes that the rows read: the count of granted cycles, and what remains of a transfer.
 use mathlib.Core.Path.{_≡_, refl, sym, _∙_, ap}
 use mathlib.Core.List.{List, [], _∷_, _++_}
 use Prim.Native.Nat.{ℕ, _+_, _*_}
 use native.Mathlib.Omega.{arith}
 use lib.ListN.{length, drop, take}
 use lib.Seq.{drop-drop, getD-drop}
+use Rattle.transfer.specs.Dma.{lengthOf}
 use Rattle.image.specs.Fields.{lifted, radices, size}
-use Rattle.image.specs.Layout.{at, fields, grantedCycles, placeOf}
+use Rattle.image.specs.Layout.{at, fields, grantedCycles, placeOf, remaining}
 use Rattle.image.specs.Radix.{joined}
-use Rattle.pane.specs.Rows.{grantedIn, wordAt}
+use Rattle.pane.specs.Rows.{grantedIn, remainingIn, wordAt}
 
 -- the number behind some fields is the first of the bytes behind them
 behind : (fs gs : List (ℕ × ℕ)) (s : List ℕ) → at (lifted (fs ++ gs) s) (length fs) ≡ at (lifted gs (drop (size fs) s)) 0
@@ -16,7 +17,12 @@ behind [] gs s = refl
 behind (f ∷ fs) gs s =
     behind fs gs (drop (f .0) s) ∙ ap (λ (l : List ℕ). at (lifted gs l) 0) (drop-drop (size fs) (f .0) s)
 
--- four bytes are two numbers of two; bytes past the end are 0
+-- two bytes, and four, which are two numbers of two; bytes past the end are 0
+two : (s : List ℕ) → joined (radices 2) (take 2 s) ≡ wordAt s 0
+two [] = refl
+two (a ∷ []) = omega arith
+two (a ∷ b ∷ s) = refl
+
 four : (s : List ℕ) → joined (radices 4) (take 4 s) ≡ wordAt s 0 + 65536 * wordAt s 2
 four [] = refl
 four (a ∷ []) = omega arith
@@ -37,3 +43,13 @@ module _ (s : List ℕ) where
   -- read as two numbers of two bytes
   pub halves : {a b : ℕ} → a ≡ wordAt s (placeOf grantedCycles) → b ≡ wordAt s (placeOf grantedCycles + 2) → a + 65536 * b ≡ grantedIn s
   halves p q = (λ j. p j + 65536 * q j) ∙ sym counted
+
+  left-there : wordAt (drop (placeOf remaining) s) 0 ≡ wordAt s (placeOf remaining)
+  left-there = simp getD-drop refl
+
+  -- read as the length that two bytes say
+  pub left : {a : ℕ} → a ≡ wordAt s (placeOf remaining) → lengthOf a ≡ remainingIn s
+  unfolding remainingIn
+  left p =
+      ap lengthOf
+      (p ∙ sym (behind (take remaining fields) (drop remaining fields) s ∙ two (drop (placeOf remaining) s) ∙ left-there))
