@@ -33,21 +33,30 @@ not-reset : lineFault (0 ∷ ascii "reset") ≡ ascii "unknown command: " ++ (0 
 unfolding lineFault isComment commandFault otherFault fillFrom same wordsFrom wordFrom _⊕_
 not-reset = refl
 
--- an image as it was before the count, another that is too short, a storage that goes on; no bus is an old image
-old-image : lengthFault (ascii "old.reu") 0 34 38
-    ≡ ascii "refused: old.reu has 34 bytes, 38 are needed (refusal 1): it was saved before the count of granted cycles"
+-- images of earlier releases, others that are too short or too long, a storage that goes on; no bus is an earlier image
+before-count : lengthFault (ascii "old.reu") 0 34 false 37
+    ≡ ascii "refused: old.reu has 34 bytes, 37 are needed (refusal 1): an earlier release saved it"
 unfolding lengthText reasonText decimalUpTo fillFrom _⊕_
-old-image = refl
+before-count = refl
 
-short-image : lengthFault (ascii "x") 0 33 38 ≡ ascii "refused: x has 33 bytes, 38 are needed (refusal 1)"
+three-bytes : lengthFault (ascii "old.reu") 0 38 false 37
+    ≡ ascii "refused: old.reu has 38 bytes, 37 are needed (refusal 1): an earlier release saved it"
+unfolding lengthText reasonText decimalUpTo fillFrom _⊕_
+three-bytes = refl
+
+short-image : lengthFault (ascii "x") 0 36 false 37 ≡ ascii "refused: x has 36 bytes, 37 are needed (refusal 1)"
 unfolding lengthText reasonText decimalUpTo fillFrom _⊕_
 short-image = refl
 
-long-storage : lengthFault (ascii "x") 2 524289 524288 ≡ ascii "refused: x.storage has more than 524288 bytes, 524288 are needed"
+long-image : lengthFault (ascii "x") 0 38 true 37 ≡ ascii "refused: x has more than 38 bytes, 37 are needed (refusal 1)"
+unfolding lengthText reasonText decimalUpTo fillFrom _⊕_
+long-image = refl
+
+long-storage : lengthFault (ascii "x") 2 524289 true 524288 ≡ ascii "refused: x.storage has more than 524289 bytes, 524288 are needed"
 unfolding lengthText reasonText decimalUpTo fillFrom _⊕_
 long-storage = refl
 
-short-bus : lengthFault (ascii "x") 1 34 65536 ≡ ascii "refused: x.bus has 34 bytes, 65536 are needed"
+short-bus : lengthFault (ascii "x") 1 34 false 65536 ≡ ascii "refused: x.bus has 34 bytes, 65536 are needed"
 unfolding lengthText reasonText decimalUpTo fillFrom _⊕_
 short-bus = refl
 

@@ -1,8 +1,8 @@
 -- The three files of a saved machine.
 use Prim.Native.Nat.{ℕ}
-use mathlib.Core.Bool.{cond}
+use mathlib.Core.Bool.{Bool, cond, not, _&&_, _||_}
 use mathlib.Core.List.{List, _++_}
-use lib.Dec.{eqb, ltb}
+use lib.Dec.{eqb}
 use lib.ListN.{length, take, drop}
 use Rattle.text.specs.Shown.{_⊕_, ascii, decimalUpTo, fillOf}
 
@@ -16,19 +16,23 @@ copiedOver from to = take (length to) from ++ drop (length from) to
 
 -- ---- a file that has another length than its part needs
 
--- past what is needed it is only seen to go on
-unfoldable pub lengthText : List ℕ → ℕ → ℕ → List ℕ
-lengthText file got needed =
+-- what was counted of it; `on` says that it goes on
+unfoldable pub lengthText : List ℕ → ℕ → Bool → List ℕ
+lengthText file got on =
     let t : List ℕ = fillOf "refused: % has " file in
-    cond (ltb needed got) (t ⊕ ascii "more than " ⊕ decimalUpTo 20 needed) (t ⊕ decimalUpTo 20 got)
+    cond on (t ⊕ ascii "more than " ⊕ decimalUpTo 20 got) (t ⊕ decimalUpTo 20 got)
 
--- "Refusal 1" is of the image alone; L1: "The image grows to 38 bytes", before which it had 34
-unfoldable pub reasonText : List ℕ → ℕ → ℕ → List ℕ
-reasonText t part got =
+-- the lengths of earlier images: document 01's "34 bytes", and L1's "The image grows to 38 bytes"
+abbrev pub isEarlier : ℕ → Bool
+isEarlier got = eqb got 34 || eqb got 38
+
+-- "Refusal 1" is of the image alone; L3: "Earlier images are refused"
+unfoldable pub reasonText : List ℕ → ℕ → ℕ → Bool → List ℕ
+reasonText t part got on =
     let image : List ℕ = t ⊕ ascii " (refusal 1)" in
-    cond (eqb part 0) (cond (eqb got 34) (image ⊕ ascii ": it was saved before the count of granted cycles") image) t
+    cond (eqb part 0) (cond (isEarlier got && not on) (image ⊕ ascii ": an earlier release saved it") image) t
 
-abbrev pub lengthFault : List ℕ → ℕ → ℕ → ℕ → List ℕ
-lengthFault name part got needed =
+abbrev pub lengthFault : List ℕ → ℕ → ℕ → Bool → ℕ → List ℕ
+lengthFault name part got on needed =
     reasonText
-    (lengthText (partName name part) got needed ⊕ ascii " bytes, " ⊕ decimalUpTo 20 needed ⊕ ascii " are needed") part got
+    (lengthText (partName name part) got on ⊕ ascii " bytes, " ⊕ decimalUpTo 20 needed ⊕ ascii " are needed") part got on

@@ -46,7 +46,22 @@ pub(crate) fn save(name: Line, image: &[u8], bus: &[u8], storage: &[u8]) {
 
 // ---- opening
 
-// Reads a part into bytes of its length; what is wrong with it, as a line. A byte past them shows that a file goes on.
+// How many bytes a file still has: none, one, or two if there are more; below 0 if reading it fails.
+fn bytes_behind(fd: i32) -> isize {
+    let mut byte = [0u8; 1];
+    let one = libc::read(fd, &mut byte);
+    if one != 1 {
+        return one;
+    }
+    let two = libc::read(fd, &mut byte);
+    if two == 1 {
+        return 2;
+    }
+    if two == 0 { 1 } else { two }
+}
+
+// Reads a part into bytes of its length; what is wrong with it, as a line. One byte too many is counted, so that of an
+// image that an earlier release saved the length is said; of more it is only said that the file goes on.
 fn read_part(name: Line, part: u8, bytes: &mut [u8]) -> Line {
     let file = part_name(name, part);
     let path = file.all();
@@ -56,17 +71,16 @@ fn read_part(name: Line, part: u8, bytes: &mut [u8]) -> Line {
     }
     let needed = bytes.len();
     let got = io::read_full(fd, bytes);
-    let mut more = [0u8; 1];
-    let past = libc::read(fd, &mut more);
+    let behind = bytes_behind(fd);
     libc::close(fd);
-    if (got == needed) & (past == 0) {
+    if (got == needed) & (behind == 0) {
         return Line::new();
     }
-    if past == 0 {
-        return length_fault(name, part, got, needed);
+    if behind == 0 {
+        return length_fault(name, part, got, false, needed);
     }
-    if (got == needed) & (past == 1) {
-        return length_fault(name, part, got + 1, needed);
+    if (got == needed) & (0 < behind) {
+        return length_fault(name, part, got + 1, behind == 2, needed);
     }
     fill(b"cannot read %: it is no file, or reading it failed", file)
 }

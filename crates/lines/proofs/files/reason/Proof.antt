@@ -12,15 +12,19 @@ returns c = rw (ne-eqb _ _ (c .if1 .taken))
 returns-2 : tie.Need-returns-2
 unfolding reasonText
 returns-2 c =
-    let its-if1 = c .before .before .before .before .before .if1 in
-    rw (eq-eqb _ _ (its-if1 .left), eq-eqb _ _ (c .before .before .if2 .taken)) (search (needs, then))
+    let its-if2 = c .before .before .if2 in
+    let its-is-earlier = c .before .before .before .is-earlier in
+    let its-if1 = c .before .before .before .before .before .before .if1 in
+    rw (eq-eqb _ _ (its-if1 .left), ← its-is-earlier .ensures, its-if2 .taken) (search (needs, then))
 
 returns-3 : tie.Need-returns-3
 unfolding reasonText
-returns-3 c = rw (eq-eqb _ _ (c .before .before .before .if1 .left), ne-eqb _ _ (c .if2 .left)) (c .before .text .ensures)
+returns-3 c =
+    rw (eq-eqb _ _ (c .before .before .before .before .if1 .left), ← c .before .is-earlier .ensures, c .if2 .left)
+    (c .before .before .text .ensures)
 
 pub reason-spec : {M : Type 1} → statement M
 reason-spec =
     tie.close
-    (tie.spec returns (λ c. search needs) (λ c κs. search needs) (λ c. search needs) (λ c κs. search needs)
+    (tie.spec returns (λ c. search needs) (λ c κs. search needs) (λ c κs. search needs) (λ c. search needs) (λ c κs. search needs)
     returns-2 returns-3)
