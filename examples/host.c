@@ -1,6 +1,7 @@
 /*
- * A test host in C: a store, a swap, a start by FF00, a block over the top of the memory, and a saved machine that is
- * written to a file and opened again. It checks every result, says what it did, and answers 0 if all was as expected.
+ * A test host in C: a store, a swap, a start by FF00, a block over the top of the memory, one of full length, and a saved
+ * machine that is written to a file and opened again. It checks every result, says what it did, and answers 0 if all was
+ * as expected.
  *
  *   cc -Iinclude examples/host.c target/staticlib/libreu.a -o host && ./host
  *
@@ -167,6 +168,18 @@ static void over_the_top(struct machine *m) {
     printf("  the third of 5 cycles says that the C64 address passed $FFFF\n");
 }
 
+/* Length 0 means 65,536, which is a 0 in the image too: reu_remaining() tells it from that of no transfer. */
+static void full_length(struct machine *m) {
+    printf("full length: a store of 65,536 bytes from $2000, cut off after one\n");
+    command(m, 0x2000, 0x020000, 0, REU_STORE | REU_COMMAND_FF00_DISABLE | REU_COMMAND_EXECUTE);
+    expect("bytes left at the start", reu_remaining(m->image), 65536);
+    expect("cycle", run_cycle(m), 1);
+    expect("bytes left after a cycle", reu_remaining(m->image), 65535);
+    accepted("reset", reu_reset(m->image, REU_IMAGE_SIZE, 0));
+    expect("bytes left after a reset", reu_remaining(m->image), 0);
+    printf("  65,536 bytes were left, 65,535 after a cycle, none after a reset\n");
+}
+
 static int machine_equal(const struct machine *a, const struct machine *b) {
     return memcmp(a->image, b->image, REU_IMAGE_SIZE) == 0 && memcmp(a->bus, b->bus, REU_BUS_SIZE) == 0 &&
            memcmp(a->storage, b->storage, REU_STORAGE_SIZE) == 0;
@@ -246,6 +259,7 @@ int main(int argc, char **argv) {
     swap(&m);
     start_by_ff00(&m);
     over_the_top(&m);
+    full_length(&m);
     save_and_open(&m, argc > 1 ? argv[1] : "machine.reu");
     refusals(&m);
     machine_free(&m);

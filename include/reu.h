@@ -78,7 +78,7 @@
 extern "C" {
 #endif
 
-#define REU_VERSION "0.3.0"
+#define REU_VERSION "0.4.0"
 
 /* Lengths of the buffers; REU_IMAGE_SIZE stands behind the image's places. */
 #define REU_BUS_SIZE 65536
@@ -147,10 +147,11 @@ extern "C" {
  * THE IMAGE
  * An image may be copied, kept in a file and compared byte by byte: two accepted images are equal exactly if their
  * controllers are. An image, a bus and a storage together are a saved machine. Numbers of more than one byte have their
- * low byte first. Registers, shadows and the count may have any value; the other fields are refused (2) outside the
- * values given, and so are a transfer while the storage is not attached, a write phase without swap, and a verify tail
- * without verify or with a remaining length other than 1. Without a transfer all bytes from REU_IMAGE_TYPE up to
- * REU_IMAGE_GRANTED_CYCLES are 0.
+ * low byte first. Registers, shadows and the count may have any value, and while a transfer is running so may both its
+ * addresses, its remaining length and its latch; the other fields are refused (2) outside the values given, and so are a
+ * transfer while the storage is not attached, a write phase without swap, and a verify tail without verify or with a
+ * remaining length other than 1. Without a transfer all bytes from REU_IMAGE_TYPE up to REU_IMAGE_GRANTED_CYCLES are 0.
+ * Images of earlier releases have 34 bytes (0.1.0) or 38 (0.2.0, 0.3.0) and are refused (1), whatever they hold.
  * Each place is the one before plus its width, so a field reaches up to the next place.
  */
 #define REU_IMAGE_REGISTERS 0                                    /* by index, as held */
@@ -165,11 +166,11 @@ extern "C" {
 #define REU_IMAGE_PHASE (REU_IMAGE_TYPE + 1)                     /* 0 read, 1 write */
 #define REU_IMAGE_C64_ADDRESS (REU_IMAGE_PHASE + 1)              /* where the transfer is on the C64's side */
 #define REU_IMAGE_EXPANSION_ADDRESS (REU_IMAGE_C64_ADDRESS + 2)  /* where it is in the expansion memory */
-#define REU_IMAGE_REMAINING (REU_IMAGE_EXPANSION_ADDRESS + 3)    /* the bytes that are left: 1 to 65,536 */
-#define REU_IMAGE_LATCH (REU_IMAGE_REMAINING + 3)                /* any byte */
+#define REU_IMAGE_REMAINING (REU_IMAGE_EXPANSION_ADDRESS + 3)    /* the bytes that are left: 0 means 65,536 */
+#define REU_IMAGE_LATCH (REU_IMAGE_REMAINING + 2)                /* any byte */
 #define REU_IMAGE_TRANSFER_FLAGS (REU_IMAGE_LATCH + 1)           /* REU_TRANSFER_FIX_C64 to REU_TRANSFER_TAIL only */
 #define REU_IMAGE_GRANTED_CYCLES (REU_IMAGE_TRANSFER_FLAGS + 1)  /* the count of granted cycles: 4 bytes */
-#define REU_IMAGE_SIZE (REU_IMAGE_GRANTED_CYCLES + 4)            /* the length of an image: 38 */
+#define REU_IMAGE_SIZE (REU_IMAGE_GRANTED_CYCLES + 4)            /* the length of an image: 37 */
 
 /* Byte REU_IMAGE_FLAGS. */
 #define REU_FLAG_ENABLED 0x01
@@ -225,6 +226,17 @@ static inline uint32_t reu_interrupt_level(const uint8_t *image) {
 static inline uint32_t reu_granted_cycles(const uint8_t *image) {
     const uint8_t *count = image + REU_IMAGE_GRANTED_CYCLES;
     return (uint32_t)count[0] | (uint32_t)count[1] << 8 | (uint32_t)count[2] << 16 | (uint32_t)count[3] << 24;
+}
+
+/*
+ * How many bytes are left of the transfer of an image of REU_IMAGE_SIZE bytes: 1 to 65,536, and 0 without a transfer. Its
+ * two bytes alone do not say that: both are 0 for 65,536, and without a transfer. Only they and REU_IMAGE_TRANSFER are
+ * looked at, whether the calls accept the image or refuse it (2).
+ */
+static inline uint32_t reu_remaining(const uint8_t *image) {
+    const uint8_t *bytes = image + REU_IMAGE_REMAINING;
+    uint32_t left = (uint32_t)bytes[0] | (uint32_t)bytes[1] << 8;
+    return image[REU_IMAGE_TRANSFER] == 0 ? 0u : left == 0 ? 65536u : left;
 }
 
 /* ---- a controller and its storage ---- */

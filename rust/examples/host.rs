@@ -1,5 +1,5 @@
-//! A test host in Rust: a store, a swap, a start by FF00, a block over the top of the memory, and a saved machine that is
-//! written to a file and opened again.
+//! A test host in Rust: a store, a swap, a start by FF00, a block over the top of the memory, one of full length, and a
+//! saved machine that is written to a file and opened again.
 //! It checks every result and says what it did.
 //!
 //!     cargo run --example host
@@ -84,6 +84,17 @@ fn over_the_top(host: &mut Host) {
     println!("over the top: the third of 5 cycles says that the C64 address passed $FFFF");
 }
 
+/// Length 0 means 65,536, which is a 0 in the image too: `remaining` tells it from that of no transfer.
+fn full_length(host: &mut Host) {
+    host.command(0x2000, 0x02_0000, 0, STORE | AT_ONCE);
+    assert_eq!(host.machine.remaining(), 65_536);
+    host.run_cycle();
+    assert_eq!(host.machine.remaining(), 65_535);
+    host.machine.reset(false);
+    assert_eq!(host.machine.remaining(), 0);
+    println!("full length: 65,536 bytes are left, 65,535 after a cycle, none after a reset");
+}
+
 fn save_and_open(host: &mut Host, path: &str) -> Result<(), Box<dyn Error>> {
     host.command(0x2000, 0x01_0000, 5, SWAP | AT_ONCE);
     assert!((0..3).all(|_| host.run_cycle().busy));
@@ -112,6 +123,7 @@ fn main() -> Result<(), Box<dyn Error>> {
     swap(&mut host);
     start_by_ff00(&mut host);
     over_the_top(&mut host);
+    full_length(&mut host);
     save_and_open(&mut host, &path)?;
     println!("all as expected");
     Ok(())

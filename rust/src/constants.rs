@@ -143,15 +143,15 @@ pub const IMAGE_PHASE: usize = IMAGE_TYPE + 1;
 pub const IMAGE_C64_ADDRESS: usize = IMAGE_PHASE + 1;
 /// Where it is in the expansion memory.
 pub const IMAGE_EXPANSION_ADDRESS: usize = IMAGE_C64_ADDRESS + 2;
-/// The bytes that are left: 1 to 65,536.
+/// The bytes that are left, in two bytes: 0 means 65,536.
 pub const IMAGE_REMAINING: usize = IMAGE_EXPANSION_ADDRESS + 3;
 /// Any byte.
-pub const IMAGE_LATCH: usize = IMAGE_REMAINING + 3;
+pub const IMAGE_LATCH: usize = IMAGE_REMAINING + 2;
 /// `TRANSFER_FIX_C64` to `TRANSFER_TAIL`; no other bit.
 pub const IMAGE_TRANSFER_FLAGS: usize = IMAGE_LATCH + 1;
 /// The count of granted cycles: any number of four bytes.
 pub const IMAGE_GRANTED_CYCLES: usize = IMAGE_TRANSFER_FLAGS + 1;
-/// Bytes of an image, 38: each field reaches up to the next place, and the last one up to this.
+/// Bytes of an image, 37: each field reaches up to the next place, and the last one up to this.
 pub const IMAGE_SIZE: usize = IMAGE_GRANTED_CYCLES + 4;
 
 // Bits of the byte at `IMAGE_FLAGS`.

@@ -130,6 +130,31 @@ impl Machine {
         self.image[IMAGE_GRANTED_CYCLES..].iter().rev().fold(0, |count, byte| count << 8 | u32::from(*byte))
     }
 
+    /// How many bytes are left of the transfer: 1 to 65,536, and 0 without one.
+    ///
+    /// The image has two bytes for it, and both are 0 for 65,536 and without a transfer.
+    ///
+    /// ```
+    /// let mut machine = reu::Machine::new();
+    /// machine.set_enabled(true);
+    /// machine.write(0xDF07, 0); // length 0 means 65,536
+    /// machine.write(0xDF08, 0);
+    /// assert_eq!(machine.remaining(), 0); // nothing runs
+    /// machine.write(0xDF01, reu::STORE | reu::COMMAND_FF00_DISABLE | reu::COMMAND_EXECUTE);
+    /// assert_eq!(machine.remaining(), 65_536);
+    /// machine.run_reu_cycle(true, 0, false, true);
+    /// assert_eq!(machine.remaining(), 65_535);
+    /// while machine.run_reu_cycle(true, 0, false, true).busy {}
+    /// assert_eq!(machine.remaining(), 0); // it has ended
+    /// ```
+    pub fn remaining(&self) -> u32 {
+        match u16::from_le_bytes([self.image[IMAGE_REMAINING], self.image[IMAGE_REMAINING + 1]]) {
+            _ if self.image[IMAGE_TRANSFER] == 0 => 0,
+            0 => 65_536,
+            left => left.into(),
+        }
+    }
+
     /// Resets the controller; enabled, attached and the storage are kept. `hard_reset` makes no difference.
     pub fn reset(&mut self, hard_reset: bool) {
         accepted(calls::reset(&mut self.image, hard_reset));
