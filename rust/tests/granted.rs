@@ -29,19 +29,19 @@ fn cycle(machine: &mut Machine, ba_high: bool) -> bool {
 /// A machine whose image is this one's with another count.
 fn with_count(machine: &Machine, count: u32) -> Machine {
     let mut image = *machine.image();
-    image[34..38].copy_from_slice(&count.to_le_bytes());
+    image[IMAGE_GRANTED_CYCLES..].copy_from_slice(&count.to_le_bytes());
     Machine::open(&image, machine.bus(), machine.storage()).expect("any count is accepted")
 }
 
 #[test]
-fn the_count_stands_at_bytes_34_to_37_low_byte_first() {
-    assert_eq!((IMAGE_GRANTED_CYCLES, IMAGE_SIZE), (34, 38));
+fn the_count_is_the_last_four_bytes_low_byte_first() {
+    assert_eq!(IMAGE_SIZE - IMAGE_GRANTED_CYCLES, 4);
     for machine in [Machine::new(), started(3, SWAP)] {
         assert_eq!(machine.granted_cycles(), 0);
         let counted = with_count(&machine, 0x1234_5678);
-        assert_eq!(counted.image()[34..], [0x78, 0x56, 0x34, 0x12]);
+        assert_eq!(counted.image()[IMAGE_GRANTED_CYCLES..], [0x78, 0x56, 0x34, 0x12]);
         assert_eq!(counted.granted_cycles(), 0x1234_5678);
-        assert_eq!(counted.image()[..34], machine.image()[..34]);
+        assert_eq!(counted.image()[..IMAGE_GRANTED_CYCLES], machine.image()[..IMAGE_GRANTED_CYCLES]);
     }
 }
 
@@ -182,14 +182,15 @@ fn a_saved_machine_keeps_it_and_goes_on() {
     assert_eq!((machine.granted_cycles(), opened.granted_cycles()), (3, 4));
 }
 
-/// An image without the count, as it was before there was one, and those one byte short and long.
+/// An image of 34 bytes, as it was before there was a count, one of 38, as it was when there was one first, and one that is
+/// a byte short of its count.
 #[test]
-fn an_image_of_34_bytes_is_refused() {
+fn an_image_of_an_earlier_length_is_refused() {
     let machine = started(5, SWAP);
     let bytes = [&machine.image()[..], &[0]].concat();
-    for length in [34, 37, 39] {
+    for length in [34, 36, 38] {
         let opened = Machine::open(&bytes[..length], machine.bus(), machine.storage());
         assert_eq!(opened.unwrap_err(), Refusal::ImageLength, "{length} bytes");
     }
-    assert!(Machine::open(&bytes[..38], machine.bus(), machine.storage()).is_ok());
+    assert!(Machine::open(&bytes[..IMAGE_SIZE], machine.bus(), machine.storage()).is_ok());
 }
