@@ -48,7 +48,8 @@ fn edited(text: &str, what: &str, edit: &Edit) -> String {
 fn body(sources: &HashMap<&'static str, String>, name: &str, planted: Option<&Planted>) -> String {
     let text = sources[name].replace("//!", "//");
     let added = COUNT.iter().map(|edit| ("the count", edit)).chain(MARKS.iter().map(|edit| ("the marks", edit)));
-    let edits = added.chain(planted.map(|planted| (planted.name, &planted.edit)));
+    let of_bug = planted.into_iter().flat_map(|planted| planted.edits().map(move |edit| (planted.name, edit)));
+    let edits = added.chain(of_bug);
     edits.filter(|(_, edit)| edit.file == name).fold(text, |text, (what, edit)| edited(&text, what, edit))
 }
 
@@ -56,7 +57,7 @@ fn body(sources: &HashMap<&'static str, String>, name: &str, planted: Option<&Pl
 /// copy 0's modules.
 fn copy(sources: &HashMap<&'static str, String>, number: usize, planted: Option<&Planted>) -> String {
     let body = |name: &str| body(sources, name, planted);
-    let calls_alone = planted.is_some_and(|planted| planted.edit.file == "accepted");
+    let calls_alone = planted.is_some_and(|planted| planted.edits().all(|edit| edit.file == "accepted"));
     let modules = if calls_alone { String::new() } else { text::modules(&body, &body("run_reu_cycle")) };
     let base = if calls_alone { 0 } else { number };
     let mut text = format!(
@@ -75,8 +76,9 @@ fn copies(sources: &HashMap<&'static str, String>) -> String {
     let mut text = copy(sources, 0, None);
     let mut calls = String::from("copy0::call,");
     for (at, planted) in PLANTED.iter().enumerate() {
-        let (name, file) = (planted.name, planted.edit.file);
-        assert!(sources.contains_key(file), "planted bug '{name}': no file {file}");
+        for Edit { file, .. } in planted.edits() {
+            assert!(sources.contains_key(file), "planted bug '{}': no file {file}", planted.name);
+        }
         text.push_str(&copy(sources, at + 1, Some(planted)));
         calls.push_str(&format!(" copy{}::call,", at + 1));
     }

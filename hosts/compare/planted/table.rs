@@ -1,5 +1,6 @@
-// The planted bugs: each is one edit of one text that a copy of the original is made of. Before that, each copy is given
-// what the original has not, by edits too: the count of granted cycles, and the marks of an address that passes its top.
+// The planted bugs: each is an edit of a text that a copy of the original is made of, or two where it takes two. Before
+// that, each copy is given what the original has not, by edits too: the count of granted cycles, and the marks of an
+// address that passes its top.
 
 /// `old` stands exactly once in `file` and is replaced by `new`.
 #[allow(dead_code)] // The build script reads it.
@@ -9,16 +10,29 @@ pub struct Edit {
     pub new: &'static str,
 }
 
-#[allow(dead_code)] // The build script reads the edit, the program the rest.
+#[allow(dead_code)] // The build script reads the edits, the program the rest.
 pub struct Planted {
     pub name: &'static str,
     /// The recorded session that must break, if there is one.
     pub session: Option<usize>,
-    pub edit: Edit,
+    edit: Edit,
+    also: Option<Edit>,
+}
+
+impl Planted {
+    #[allow(dead_code)] // The build script asks for them.
+    pub fn edits(&self) -> impl Iterator<Item = &Edit> {
+        std::iter::once(&self.edit).chain(&self.also)
+    }
 }
 
 const fn edit(name: &'static str, file: &'static str, old: &'static str, new: &'static str) -> Planted {
-    Planted { name, session: None, edit: Edit { file, old, new } }
+    Planted { name, session: None, edit: Edit { file, old, new }, also: None }
+}
+
+/// The same, with an edit more of the same text or of another.
+const fn also(planted: Planted, file: &'static str, old: &'static str, new: &'static str) -> Planted {
+    Planted { also: Some(Edit { file, old, new }), ..planted }
 }
 
 /// The same, with the recorded session that it must break.
@@ -404,6 +418,13 @@ pub const PLANTED: &[Planted] = &[
         "get(&image[IMAGE_GRANTED_CYCLES..]) as u32,",
         "get(&image[IMAGE_GRANTED_CYCLES..]) as u32 & 0xFF_FFFF,"),
 
+    also(edit("the count is left at 34", "host/fields",
+        "image[IMAGE_GRANTED_CYCLES..].copy_from_slice(&self.granted_cycles.to_le_bytes());",
+        "image[IMAGE_GRANTED_CYCLES + 1..].copy_from_slice(&self.granted_cycles.to_le_bytes()[..3]);"),
+        "host/fields",
+        "get(&image[IMAGE_GRANTED_CYCLES..]) as u32,",
+        "get(&image[IMAGE_GRANTED_CYCLES + 1..]) as u32,"),
+
     // The marks of an address that passes its top: which byte reports.
     edit("a fixed C64 address reports", "dma", "self.fix_c64 == false && self.c64_addr", "self.c64_addr"),
     edit("a fixed expansion address reports", "dma", "self.fix_reu == false && self.reu_addr", "self.reu_addr"),
@@ -518,12 +539,63 @@ pub const PLANTED: &[Planted] = &[
     edit("the parity is not opened", "host/fields",
         "read_clock_odd: bit(image[IMAGE_TRANSFER_FLAGS], 4),",
         "read_clock_odd: false,"),
-    edit("remaining is opened as 16 bits", "host/fields",
-        "remaining: get(&image[IMAGE_REMAINING..IMAGE_LATCH]),",
-        "remaining: get(&image[IMAGE_REMAINING..IMAGE_LATCH]) & 0xFFFF,"),
+    edit("the transfer's flags are left at 33", "host/fields",
+        "use ::reu::*;",
+        "use ::reu::*; const IMAGE_TRANSFER_FLAGS: usize = ::reu::IMAGE_TRANSFER_FLAGS + 1;"),
+    also(edit("the latch is left at 32", "host/fields",
+        "image[IMAGE_LATCH] = self.latch;",
+        "image[IMAGE_LATCH + 1] = self.latch;"),
+        "host/fields",
+        "latch: image[IMAGE_LATCH],",
+        "latch: image[IMAGE_LATCH + 1],"),
+
+    // Remaining in two bytes. (A 0 that is read as 0 and from which a step goes down to 65,535, as numbers of two bytes do,
+    // is no bug that an image could show: all is as with 65,536.)
+    breaks(15, also(edit("a remaining of 0 is read as 0 and kept there", "host/fields",
+        "if pair == 0 { 65_536 } else { pair }",
+        "pair"),
+        "dma",
+        "self.remaining -= 1;",
+        "self.remaining = self.remaining.saturating_sub(1);")),
+    breaks(15, edit("a remaining of 0 is read as 65,535", "host/fields",
+        "if pair == 0 { 65_536 }",
+        "if pair == 0 { 65_535 }")),
+    breaks(15, edit("a remaining of 0 is read as 256", "host/fields",
+        "if pair == 0 { 65_536 }",
+        "if pair == 0 { 256 }")),
+    breaks(15, edit("65,536 is written as $FFFF", "host/fields",
+        "if remaining == 65_536 { 0 }",
+        "if remaining == 65_536 { 0xFFFF }")),
+    breaks(15, edit("65,536 is written as 1", "host/fields",
+        "if remaining == 65_536 { 0 }",
+        "if remaining == 65_536 { 1 }")),
+    breaks(15, edit("65,535 is written as 0 too", "host/fields",
+        "if remaining == 65_536 { 0 }",
+        "if remaining >= 65_535 { 0 }")),
+    also(edit("remaining has its high byte first", "host/fields",
+        "pair_of(self.remaining));",
+        "pair_of(self.remaining)); image[IMAGE_REMAINING..IMAGE_LATCH].reverse();"),
+        "host/fields",
+        "get(&image[IMAGE_REMAINING..IMAGE_LATCH])",
+        "get(&[image[IMAGE_REMAINING + 1], image[IMAGE_REMAINING]])"),
+    also(edit("remaining is left in three bytes", "host/fields",
+        "put(&mut image[IMAGE_REMAINING..IMAGE_LATCH], pair",
+        "put(&mut image[IMAGE_REMAINING..=IMAGE_LATCH], pair"),
+        "host/fields",
+        "get(&image[IMAGE_REMAINING..IMAGE_LATCH])",
+        "get(&image[IMAGE_REMAINING..=IMAGE_LATCH])"),
+    also(edit("remaining is one less in an image", "host/fields",
+        "if remaining == 65_536 { 0 } else { remaining }",
+        "remaining - 1"),
+        "host/fields",
+        "if pair == 0 { 65_536 } else { pair }",
+        "pair + 1"),
 
     // Refusals.
     edit("a longer image is taken", "accepted", "image.len() != IMAGE", "image.len() < IMAGE"),
+    edit("an image of 38 bytes is taken", "accepted",
+        "image.len() != IMAGE",
+        "image.len() != IMAGE && image.len() != 38"),
     edit("the image's length has 32 bits", "accepted", "image.len() != IMAGE", "image.len() as u32 as usize != IMAGE"),
     edit("the image's length has 8 bits", "accepted", "image.len() != IMAGE", "image.len() % 256 != IMAGE"),
     edit("new tests the image's fields", "accepted", "call != Call::New && !accepted(image)", "!accepted(image)"),
@@ -545,18 +617,37 @@ pub const PLANTED: &[Planted] = &[
     edit("the second byte of flags has any value", "accepted", "image[IMAGE_MORE_FLAGS] <= 3 && ", ""),
     edit("a delay of 3 is taken", "accepted", "image[IMAGE_DELAY] <= 2", "image[IMAGE_DELAY] <= 3"),
     edit("a type beyond 3 is taken", "accepted", "&& kind <= 3", ""),
-    edit("remaining 0 is taken", "accepted", "(1..=65_536)", "(0..=65_536)"),
-    edit("remaining 65,537 is taken", "accepted", "(1..=65_536)", "(1..=65_537)"),
+    edit("a pair of 0 is refused while a transfer runs", "accepted",
+        "&& flags <= 0x3F",
+        "&& remaining != 65_536 && flags <= 0x3F"),
     edit("bit 6 of the transfer's flags is taken", "accepted", "flags <= 0x3F", "flags <= 0x7F"),
     edit("a write phase without swap is taken", "accepted", "&& (phase == 0 || kind == 2)", ""),
     edit("a tail without verify is taken", "accepted", "kind == 3 && remaining == 1", "remaining == 1"),
     edit("a tail with any remaining is taken", "accepted", "kind == 3 && remaining == 1", "kind == 3"),
+    edit("a tail with remaining 65,536 is taken", "accepted",
+        "kind == 3 && remaining == 1",
+        "kind == 3 && (remaining == 1 || remaining == 65_536)"),
+    edit("of a tail's remaining only the low byte is looked at", "accepted",
+        "kind == 3 && remaining == 1",
+        "kind == 3 && remaining % 256 == 1"),
+    edit("a tail with remaining's bytes exchanged is taken", "accepted",
+        "kind == 3 && remaining == 1",
+        "kind == 3 && (remaining == 1 || remaining == 256)"),
     edit("a transfer while not attached is taken", "accepted",
         "    attached\n        && image[IMAGE_TRANSFER] == 1",
         "    image[IMAGE_TRANSFER] == 1"),
     edit("fields left over without a transfer are taken", "accepted",
         "return image[IMAGE_TYPE..IMAGE_GRANTED_CYCLES].iter().all(|byte| *byte == 0);",
         "return image[IMAGE_PHASE..IMAGE_GRANTED_CYCLES].iter().all(|byte| *byte == 0);"),
+    edit("remaining left over without a transfer is taken", "accepted",
+        "return image[IMAGE_TYPE..IMAGE_GRANTED_CYCLES].iter()",
+        "return [&image[IMAGE_TYPE..IMAGE_REMAINING], &image[IMAGE_LATCH..IMAGE_GRANTED_CYCLES]].concat().iter()"),
+    edit("without a transfer 22 to 31 are 0", "accepted",
+        "image[IMAGE_TYPE..IMAGE_GRANTED_CYCLES]",
+        "image[IMAGE_TYPE..IMAGE_TRANSFER_FLAGS]"),
+    edit("without a transfer 22 to 33 are 0", "accepted",
+        "image[IMAGE_TYPE..IMAGE_GRANTED_CYCLES]",
+        "image[IMAGE_TYPE..=IMAGE_GRANTED_CYCLES]"),
     edit("transfer present may be any number", "accepted", "&& image[IMAGE_TRANSFER] == 1", ""),
     edit("a count without a transfer is refused", "accepted", "image[IMAGE_TYPE..IMAGE_GRANTED_CYCLES]", "image[IMAGE_TYPE..]"),
 ];

@@ -2,7 +2,8 @@
 //! told here once more, apart from the library.
 
 use crate::calls::Call;
-use crate::sides::{BUS, IMAGE, STORAGE, number};
+use crate::remaining::remaining;
+use crate::sides::{BUS, IMAGE, STORAGE};
 use ::reu::*;
 
 /// The transfer of an image that is attached or not.
@@ -11,13 +12,11 @@ fn transfer_accepted(image: &[u8], attached: bool) -> bool {
         return image[IMAGE_TYPE..IMAGE_GRANTED_CYCLES].iter().all(|byte| *byte == 0);
     }
     let (kind, phase, flags) = (image[IMAGE_TYPE], image[IMAGE_PHASE], image[IMAGE_TRANSFER_FLAGS]);
-    let remaining = number(&image[IMAGE_REMAINING..IMAGE_LATCH]);
-    let tail = flags & 0x20 != 0;
+    let (remaining, tail) = (remaining(image), flags & 0x20 != 0);
     attached
         && image[IMAGE_TRANSFER] == 1
         && kind <= 3
         && phase <= 1
-        && (1..=65_536).contains(&remaining)
         && flags <= 0x3F
         && (phase == 0 || kind == 2)
         && (!tail || (kind == 3 && remaining == 1))

@@ -3,8 +3,9 @@
 use crate::accepted::accepted;
 use crate::calls::{Call, NAMES, Step};
 use crate::granted::TOP;
+use crate::remaining::{remaining, set_remaining};
 use crate::rng::Rng;
-use crate::sides::{IMAGE, Image, number, places, set_number};
+use crate::sides::{IMAGE, Image, places, set_number};
 use reu::*;
 
 /// How the BA inputs of a list move.
@@ -181,7 +182,7 @@ impl Generator {
 
     /// Plans the host's own ticks to the end of a swap that has a delay or a terminal write waiting, and cycles behind
     /// them: what was waiting is then granted while no transfer runs.
-    fn plan_ticks(&mut self, remaining: usize) {
+    fn plan_ticks(&mut self, remaining: u32) {
         let cycles = [(); 3].map(|()| Step::Call(self.cycle_call()));
         self.plan.extend(cycles);
         for _ in 0..=2 * remaining {
@@ -265,7 +266,7 @@ impl Generator {
             return Step::Call(Call::TriggerFf00);
         }
         let waiting = image[IMAGE_DELAY] != 0 || image[IMAGE_FLAGS] & FLAG_TERMINAL_WRITE != 0;
-        let remaining = number(&image[IMAGE_REMAINING..IMAGE_LATCH]);
+        let remaining = remaining(image);
         if running && waiting && remaining <= 8 && self.rng.one_in(8) {
             self.plan_ticks(remaining);
             return self.plan.pop().expect("ticks were planned");
@@ -303,6 +304,18 @@ impl Generator {
         image
     }
 
+    /// The same with a transfer of this type, and no tail: every number may be left of it.
+    pub fn transfer(&mut self, kind: u8) -> Image {
+        let mut image = self.image();
+        while image[IMAGE_TRANSFER] == 0 {
+            image = self.image();
+        }
+        image[IMAGE_TYPE] = kind;
+        image[IMAGE_PHASE] = u8::from(kind == SWAP && self.rng.one_in(2));
+        image[IMAGE_TRANSFER_FLAGS] &= !TRANSFER_TAIL;
+        image
+    }
+
     /// The transfer, and the attached flag that it needs.
     fn image_transfer(&mut self, image: &mut Image) {
         image[IMAGE_FLAGS] |= FLAG_ATTACHED;
@@ -310,11 +323,11 @@ impl Generator {
         image[IMAGE_PHASE] = u8::from(image[IMAGE_TYPE] == SWAP && self.rng.one_in(2));
         let any = self.rng.word();
         let length = u32::from(self.rng.pick(&LENGTHS)).max(1);
-        let remaining = self.rng.pick(&[1, 1, 2, 2, 3, length, 65_535, 65_536, 1 + (any >> 48) as u32]);
+        let remaining = self.rng.pick(&[1, 1, 2, 2, 3, length, 255, 256, 65_535, 65_536, 1 + (any >> 48) as u32]);
         let [c64, expansion] = [C64, EXPANSION].map(|kind| self.address(kind, remaining, 2));
         set_number(&mut image[IMAGE_C64_ADDRESS..IMAGE_EXPANSION_ADDRESS], c64);
         set_number(&mut image[IMAGE_EXPANSION_ADDRESS..IMAGE_REMAINING], expansion);
-        set_number(&mut image[IMAGE_REMAINING..IMAGE_LATCH], remaining);
+        set_remaining(image, remaining);
         image[IMAGE_LATCH] = self.rng.byte();
         image[IMAGE_TRANSFER_FLAGS] = self.rng.byte() & (TRANSFER_TAIL - 1);
         if image[IMAGE_TYPE] == VERIFY && remaining == 1 && self.rng.below(4) != 0 {

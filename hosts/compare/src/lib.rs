@@ -16,6 +16,7 @@ pub mod record;
 #[cfg(original)]
 pub mod reference;
 pub mod refusals;
+pub mod remaining;
 pub mod rng;
 pub mod sessions;
 pub mod shrink;

@@ -116,7 +116,7 @@ mod with_original {
     use compare::compare::{Disagreement, Pair, Run};
     use compare::granted::AtTop;
     use compare::reference::Original;
-    use compare::{SEED, planted, shrink};
+    use compare::{SEED, planted, remaining, shrink};
     use std::fs;
 
     /// A disagreement's list made short, as a command that shows it again.
@@ -147,6 +147,17 @@ mod with_original {
         Err(format!("{disagree}\n{}", short(&mut pair, *found, bug)))
     }
 
+    /// Remaining in two bytes.
+    fn pairs_and_blocks<P: Port>(port: P, seed: u64) -> Result<(), String> {
+        let (mut library, mut original) = (Held::new(port), Original::default());
+        let mut pair = Pair { tried: &mut library, right: &mut original };
+        let pairs = remaining::pairs(&mut pair, seed)?;
+        println!("remaining: {pairs} pairs of bytes, each once: opened and stepped down alike");
+        let blocks = remaining::blocks(&mut pair)?;
+        println!("remaining: {blocks} blocks of 1, 255, 256, 65,535 and 65,536 bytes agree up to their ends");
+        Ok(())
+    }
+
     fn replay<P: Port>(port: P, file: &str) -> Result<(), String> {
         let text = fs::read_to_string(file).map_err(|error| format!("{file}: {error}"))?;
         let steps = list_from(&text)?;
@@ -165,6 +176,7 @@ mod with_original {
         }
         by_seed(options, |seed, calls| {
             random(port, seed, calls, options.bug)?;
+            pairs_and_blocks(port, seed)?;
             without_original(port, seed)?;
             alone("original", &mut Original::default(), None, seed)?;
             record::replay(&mut Original::default(), RECORDED).map(drop)

@@ -6,6 +6,7 @@
 
 use crate::calls::Call;
 use crate::granted::granted;
+use crate::remaining::remaining;
 use crate::sides::{Image, Machine, number, places};
 use reu::*;
 
@@ -108,7 +109,7 @@ fn met(machine: &dyn Machine, call: Call, before: &Image, granted: Option<&Image
         marks == MARKS[0],
         marks == MARKS[1],
         marks == MARKS[0] + MARKS[1],
-        marks != 0 && number(&before[IMAGE_REMAINING..IMAGE_LATCH]) == 1,
+        marks != 0 && remaining(before) == 1,
         marks != 0 && before[IMAGE_TYPE] == 3 && differs,
         marks != 0 && byte.is_some_and(repeats),
         byte.is_some() && tops(before).into_iter().any(holds),

@@ -6,12 +6,14 @@
 #[path = "../planted/table.rs"]
 mod table;
 
+use crate::accepted::accepted;
 use crate::calls::Call;
 use crate::compare::{Pair, Run, caught_by};
 use crate::copies::{COPIES, CallOn};
 use crate::reference::Original;
 use crate::refusals::Refusals;
-use crate::sides::{Held, IMAGE, Lent, Port, REFUSAL, register};
+use crate::remaining::EARLIER;
+use crate::sides::{Held, IMAGE, Image, Lent, Port, REFUSAL, register};
 use crate::{demand3, sessions};
 use reu::*;
 use std::panic::{AssertUnwindSafe, catch_unwind};
@@ -44,6 +46,18 @@ pub type Bug = (&'static str, Breaks, CallOn);
 
 fn right(call: Call, lent: Lent) -> u32 {
     COPIES[0](call, lent)
+}
+
+/// The image that these bytes were before remaining had two bytes, if they were one: the third of three is left out, and a
+/// count that is not there is 0.
+fn from_before(bytes: &[u8]) -> Option<Image> {
+    if !EARLIER.contains(&bytes.len()) {
+        return None;
+    }
+    let (before, behind) = bytes.split_at(IMAGE_LATCH);
+    let mut now = [before, &behind[1..]].concat();
+    now.resize(IMAGE, 0);
+    now.try_into().ok().filter(|now: &Image| accepted(now))
 }
 
 /// The stand-ins that are no edit of the text but something around it.
@@ -95,6 +109,13 @@ const WRAPPED: &[Bug] = &[
             (bus[places.0], storage[places.1]) = (byte, other);
         }
         answer
+    }),
+    ("an image from before is opened by its own layout", Breaks::Anything, |call, lent| {
+        let Lent { image, bus, storage } = lent;
+        match from_before(image) {
+            None => right(call, Lent { image, bus, storage }),
+            Some(mut now) => right(call, Lent { image: &mut now, bus, storage }),
+        }
     }),
     ("a refusal changes the image", Breaks::Anything, |call, lent| {
         let Lent { image, bus, storage } = lent;

@@ -3,8 +3,9 @@
 use crate::accepted::{accepted, refusal};
 use crate::calls::{Call, NAMES};
 use crate::generate::Generator;
+use crate::remaining::{EARLIER, earlier, set_remaining};
 use crate::rng::{Rng, noise};
-use crate::sides::{BUS, IMAGE, Image, Lent, Port, REFUSAL, STORAGE, set_number};
+use crate::sides::{BUS, IMAGE, Image, Lent, Port, REFUSAL, STORAGE};
 use reu::*;
 use std::alloc::{Layout, alloc_zeroed, dealloc};
 
@@ -142,6 +143,22 @@ impl<P: Port> Refusals<P> {
         Ok(())
     }
 
+    /// The lengths that an image had before, whatever is in it: what was laid down then, and anything else.
+    fn earlier(&mut self) -> Result<(), String> {
+        for _ in 0..BASES {
+            let mut any = [0; EARLIER[1]];
+            noise(&mut any, self.rng.word());
+            for bytes in [earlier(&self.generator.image()), [0; EARLIER[1]], [0xFF; EARLIER[1]], any] {
+                self.image.set(&bytes);
+                for (place, image) in (0..NAMES.len()).flat_map(|place| EARLIER.map(|length| (place, length))) {
+                    let call = self.generator.call(place);
+                    self.refused(call, Lengths { image, ..RIGHT })?;
+                }
+            }
+        }
+        Ok(())
+    }
+
     /// Lengths that only 64 bits tell from the right ones, with buffers that are really that long.
     fn huge_lengths(&mut self) -> Result<(), String> {
         let layout = Layout::array::<u8>(HUGE + STORAGE).expect("a layout of four gigabytes");
@@ -256,14 +273,27 @@ impl<P: Port> Refusals<P> {
             if image[IMAGE_TRANSFER] == 0 {
                 continue;
             }
-            let remaining = self.rng.pick(&[0, 1, 2, 65_535, 65_536, 65_537, 65_792, 131_072, 0xFF_FFFF]);
-            match self.rng.below(4) {
+            match self.rng.below(3) {
                 0 => image[IMAGE_FLAGS] &= !FLAG_ATTACHED,
                 1 => image[IMAGE_PHASE] ^= 1,
-                2 => image[IMAGE_TRANSFER_FLAGS] ^= TRANSFER_TAIL,
-                _ => set_number(&mut image[IMAGE_REMAINING..IMAGE_LATCH], remaining),
+                _ => image[IMAGE_TRANSFER_FLAGS] ^= TRANSFER_TAIL,
             }
             self.image(&image)?;
+        }
+        self.tails()
+    }
+
+    /// A tail asks for one byte that is left; without a tail any number may be.
+    fn tails(&mut self) -> Result<(), String> {
+        for kind in (0..BASES).flat_map(|_| [VERIFY, STORE]) {
+            let mut image = self.generator.transfer(kind);
+            for remaining in [1, 2, 255, 256, 257, 65_535, 65_536] {
+                set_remaining(&mut image, remaining);
+                self.image(&image)?;
+                image[IMAGE_TRANSFER_FLAGS] ^= TRANSFER_TAIL;
+                self.image(&image)?;
+                image[IMAGE_TRANSFER_FLAGS] ^= TRANSFER_TAIL;
+            }
         }
         Ok(())
     }
@@ -308,6 +338,7 @@ impl<P: Port> Refusals<P> {
             }
         }
         self.fields()?;
+        self.earlier()?;
         self.huge_lengths()?;
         self.lengths()?;
         if self.unchanged() { Ok(()) } else { Err("a refused call has changed a byte".into()) }

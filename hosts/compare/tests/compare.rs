@@ -9,8 +9,10 @@ use compare::port::Library;
 use compare::record::replay;
 use compare::refusals::{Refusals, Refuser};
 use compare::sides::{Held, IMAGE, Lent, Port, STORAGE};
-use compare::{SEED, demand3};
+use compare::{SEED, demand3, remaining};
+use reu::{IMAGE_LATCH, IMAGE_REMAINING, IMAGE_TYPE};
 use std::cell::RefCell;
+use std::collections::HashSet;
 use std::io::{BufRead, BufReader};
 use std::process::{Command, Stdio};
 
@@ -78,6 +80,22 @@ fn a_full_run_must_have_met_all_that_is_counted_at_the_tops_of_the_addresses() {
         counts[at] = 0;
         assert!(!met(FULL_RUN, counts), "{at}");
     }
+}
+
+/// What the first call on each image is lent: no pair twice, and each type as often as the others.
+#[test]
+fn each_pair_of_remaining_is_tried_and_each_block_run_to_its_end() {
+    let calls = RefCell::new(Vec::new());
+    let (mut tried, mut right) = (Held::new(Kept(&calls)), Held::new(Library));
+    let mut pair = Pair { tried: &mut tried, right: &mut right };
+    assert_eq!(remaining::pairs(&mut pair, SEED), Ok(65_536));
+    let images = calls.take().into_iter().filter(|(call, _)| matches!(call, Call::RunReuCycle { .. }));
+    let lent: Vec<(u8, Vec<u8>)> =
+        images.map(|(_, image)| (image[IMAGE_TYPE], image[IMAGE_REMAINING..IMAGE_LATCH].to_vec())).collect();
+    assert_eq!(lent.iter().map(|(_, bytes)| bytes).collect::<HashSet<_>>().len(), 65_536);
+    assert_eq!([0, 1, 2, 3].map(|kind| lent.iter().filter(|(of, _)| *of == kind).count()), [16_384; 4]);
+    let (mut tried, mut right) = (Held::new(Library), Held::new(Library));
+    assert_eq!(remaining::blocks(&mut Pair { tried: &mut tried, right: &mut right }), Ok(20));
 }
 
 /// The first line that the program prints, which is then ended.
@@ -193,6 +211,41 @@ mod with_original {
             let seed = run.split(' ').nth(2).unwrap();
             assert!(run.contains(&format!("refusals: from seed {seed}: ")), "{run}");
         }
+    }
+
+    /// Bugs that are about the two bytes: each of both parts catches each.
+    #[test]
+    fn the_pairs_and_the_blocks_catch_a_wrong_remaining() {
+        let names = [
+            "a remaining of 0 is read as 0 and kept there",
+            "65,536 is written as $FFFF",
+            "remaining has its high byte first",
+            "remaining is left in three bytes",
+            "the count is left at 34",
+        ];
+        for name in names {
+            let (_, _, standin) = bugs().into_iter().find(|(bug, ..)| *bug == name).expect(name);
+            let (mut tried, mut right) = (Held::new(Standin(standin)), Original::default());
+            let mut pair = Pair { tried: &mut tried, right: &mut right };
+            let by_pairs = caught_by(|| remaining::pairs(&mut pair, SEED).map(drop)).expect(name);
+            assert!(by_pairs.starts_with(&format!("remaining: from seed {SEED}, pair [")), "{name}: {by_pairs}");
+            let by_blocks = caught_by(|| remaining::blocks(&mut pair).map(drop)).expect(name);
+            assert!(by_blocks.starts_with("remaining: in a block of "), "{name}: {by_blocks}");
+        }
+    }
+
+    /// The steps that it prints are a list, and show it again.
+    #[test]
+    fn a_pair_that_disagrees_can_be_replayed() {
+        let (_, _, standin) = bugs().into_iter().find(|(bug, ..)| *bug == "65,536 is written as $FFFF").unwrap();
+        let (mut tried, mut right) = (Held::new(Standin(standin)), Original::default());
+        let mut pair = Pair { tried: &mut tried, right: &mut right };
+        let found = remaining::pairs(&mut pair, SEED).unwrap_err();
+        let (said, list) = found.split_once("; the last of these steps shows it:\n").unwrap();
+        let steps = list_from(list).unwrap();
+        begin(&mut pair);
+        let (at, what) = pair.list(&steps).unwrap_err();
+        assert_eq!((at, said), (steps.len(), format!("remaining: from seed {SEED}, pair [0, 0]: {what}").as_str()));
     }
 
     /// The original; but a reset also writes behind the image.

@@ -22,6 +22,16 @@ fn get(field: &[u8]) -> usize {
     field.iter().rev().fold(0, |number, byte| number * 256 + usize::from(*byte))
 }
 
+/// Remaining as two bytes have it: 65,536 is 0 there. The original's is never 0.
+fn pair_of(remaining: usize) -> usize {
+    if remaining == 65_536 { 0 } else { remaining }
+}
+
+/// What such a pair says.
+fn remaining_of(pair: usize) -> usize {
+    if pair == 0 { 65_536 } else { pair }
+}
+
 /// Whether an image has its storage attached.
 pub fn attached(image: &[u8; IMAGE_SIZE]) -> bool {
     image[IMAGE_FLAGS] & FLAG_ATTACHED != 0
@@ -39,7 +49,7 @@ impl DmaState {
         image[IMAGE_PHASE] = u8::from(self.swap_phase == SwapPhase::WriteC64);
         put(&mut image[IMAGE_C64_ADDRESS..IMAGE_EXPANSION_ADDRESS], usize::from(self.c64_addr));
         put(&mut image[IMAGE_EXPANSION_ADDRESS..IMAGE_REMAINING], self.reu_addr);
-        put(&mut image[IMAGE_REMAINING..IMAGE_LATCH], self.remaining);
+        put(&mut image[IMAGE_REMAINING..IMAGE_LATCH], pair_of(self.remaining));
         image[IMAGE_LATCH] = self.latch;
         image[IMAGE_TRANSFER_FLAGS] =
             bits(&[self.fix_c64, self.fix_reu, self.autoload, self.first_byte, self.read_clock_odd, self.verify_tail]);
@@ -51,7 +61,7 @@ impl DmaState {
             swap_phase: if image[IMAGE_PHASE] == 0 { SwapPhase::ReadC64 } else { SwapPhase::WriteC64 },
             c64_addr: get(&image[IMAGE_C64_ADDRESS..IMAGE_EXPANSION_ADDRESS]) as u16,
             reu_addr: get(&image[IMAGE_EXPANSION_ADDRESS..IMAGE_REMAINING]),
-            remaining: get(&image[IMAGE_REMAINING..IMAGE_LATCH]),
+            remaining: remaining_of(get(&image[IMAGE_REMAINING..IMAGE_LATCH])),
             latch: image[IMAGE_LATCH],
             fix_c64: bit(image[IMAGE_TRANSFER_FLAGS], 0),
             fix_reu: bit(image[IMAGE_TRANSFER_FLAGS], 1),
