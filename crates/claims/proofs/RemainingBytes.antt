@@ -1,13 +1,10 @@
 -- L3's claim: a remaining and its two bytes as numbers, and then in images.
-use Prim.Native.Nat.{ℕ, _+_, _*_, _/_, _%_}
+use Prim.Native.Nat.{ℕ, _+_, _*_, _/_, _%_, _<_}
 use mathlib.Core.Bool.{Bool, true, false, cond, not, _&&_, _||_}
 use mathlib.Core.Path.{_≡_, refl, sym, ap, _∙_, subst}
-use mathlib.Core.Logic.{_≢_}
-use mathlib.Core.List.{List, [], _∷_, _++_}
+use mathlib.Core.List.{List, _++_}
 use lib.Dec.{eqb}
-use lib.ListN.{length, getD, take, drop, replicate}
-use lib.Seq.{getD-append-add}
-use native.Mathlib.Decide.{ℕ-discrete}
+use lib.ListN.{length, take, drop, replicate}
 use native.Mathlib.Nat.{add-mul-mod-self-left, mod-eq-of-lt}
 use native.Mathlib.Omega.{arith}
 use borrow.Author.Tests.{eqb-true}
@@ -26,45 +23,20 @@ use Rattle.controller.proofs.WellFormed.{well-range, snd}
 use Rattle.image.specs.declared.Opened.{Opened}
 use Rattle.image.specs.Fields.{laid, lifted}
 use Rattle.image.specs.Inner.{gets}
-use Rattle.image.specs.Layout.{fields, at, transfer, remaining, remainingNumber, otherWith, packImage, transferOf, dmaIn, reuAt}
+use Rattle.image.specs.Layout.{fields, at, transfer, remaining, remainingNumber, otherWith, packImage, transferOf, reuAt}
 use Rattle.image.specs.Open.{openImage}
 use Rattle.image.specs.Valid.{Typed}
 use Rattle.image.proofs.ByBytes.{listed}
 use Rattle.image.proofs.Gets.{gets-all}
 use Rattle.image.proofs.Opening.{open-other, opened-is, opened-long}
-use Rattle.image.proofs.Packed.{open-pack, pack-is}
-use Rattle.image.proofs.Remaining.{length-full, length-plain}
+use Rattle.image.proofs.Packed.{open-pack}
+use Rattle.image.proofs.Remaining.{remaining-back, two-bytes-back}
 use Rattle.image.proofs.Sound.{Sound, SoundDma, SoundTransfer, with-dma}
+use Rattle.image.proofs.SoundCalls.{length-range}
 use Rattle.image.proofs.Valid.{open-sound, pack-back, sound-typed, sound-well}
 use Rattle.claims.specs.RemainingBytes.{pairOf, remainingOf, IsPair, IsRemaining, OpensAs, pairIn, withPair, withRemaining, RemainingBytes}
 
 -- ---- numbers
-
-back : (n : ℕ) → IsRemaining n → IsPair (pairOf n) × (remainingOf (pairOf n) ≡ n)
-back n h = (omega arith, there)
-  where
-    there : remainingOf (pairOf n) ≡ n
-    there =
-        elim (ℕ-discrete n fullLength) [
-          | yes e ↦ length-full (word (lowByte n) (highByte n)) (omega (arith, e)) ∙ sym e
-          | no ne ↦ length-plain (word (lowByte n) (highByte n)) (λ z. absurd (omega (arith, ne, z))) ∙ omega (arith, ne)
-        ]
-
-own : (p : ℕ × ℕ) → IsPair p → IsRemaining (remainingOf p) × (pairOf (remainingOf p) ≡ p)
-own p h =
-    elim (ℕ-discrete (word (p .0) (p .1)) 0) [
-      | yes e ↦
-          let is : remainingOf p ≡ fullLength = length-full _ e in
-          let low : 0 ≡ p .0 = omega (arith, e) in
-          let high : 0 ≡ p .1 = omega (arith, e) in
-          (subst IsRemaining (sym is) (omega arith), ap pairOf is ∙ (λ i. (low i, high i)))
-      | no ne ↦
-          let is : remainingOf p ≡ word (p .0) (p .1) = length-plain _ ne in
-          let low : lowByte (word (p .0) (p .1)) ≡ p .0 = omega arith in
-          let above : word (p .0) (p .1) / 256 ≡ p .1 = omega arith in
-          let high : highByte (word (p .0) (p .1)) ≡ p .1 = ap lowByte above ∙ mod-eq-of-lt (h .1) in
-          (subst IsRemaining (sym is) (omega (arith, ne)), ap pairOf is ∙ (λ i. (low i, high i)))
-    ]
 
 -- the two bytes that packing lays down
 bytes-of : (n : ℕ) → (remainingNumber n % 256, remainingNumber n / 256) ≡ pairOf n
@@ -75,33 +47,34 @@ bytes-of n =
     = ap lowByte above ∙ add-mul-mod-self-left (remainingNumber n / 256) 256 (n / fullLength) ∙ mod-eq-of-lt (omega arith) in
     λ i. (low i, sym high i)
 
+back : (n : ℕ) → IsRemaining n → IsPair (pairOf n) × (remainingOf (pairOf n) ≡ n)
+back n h =
+    let whole : word (remainingNumber n % 256) (remainingNumber n / 256) ≡ remainingNumber n = omega arith in
+    (omega arith, ap remainingOf (sym (bytes-of n)) ∙ ap lengthOf whole ∙ remaining-back n (h .0) (h .1))
+
+own : (p : ℕ × ℕ) → IsPair p → IsRemaining (remainingOf p) × (pairOf (remainingOf p) ≡ p)
+own p h =
+    let n = word (p .0) (p .1) in
+    let fits : n < fullLength = omega arith in
+    let low : n % 256 ≡ p .0 = omega arith in
+    let high : n / 256 ≡ p .1 = omega arith in (
+      length-range n fits,
+      sym (bytes-of (lengthOf n)) ∙ ap (λ (m : ℕ). (m % 256, m / 256)) (two-bytes-back n fits) ∙ (λ i. (low i, high i)),
+    )
+
 -- ---- a controller that is packed
 
-module _ (u : Reu) (long : length (u .regs) ≡ registerCount) where
-  -- byte k behind the registers, of a controller that runs m
-  byte-behind : (m : Dma) (k : ℕ) → u .dma ≡ m → at (packImage u) (registerCount + k) ≡ at (laid (drop registerCount fields) (otherWith u m)) k
-  byte-behind m k e =
-      ap (λ (l : List ℕ). at l (registerCount + k)) (pack-is u long)
-      ∙ ap (λ (i : ℕ). getD (u .regs ++ behind (u .dma)) i 0) (omega (arith, long))
-      ∙ getD-append-add (u .regs) (behind (u .dma)) k 0 ∙ ap (λ (x : Dma). at (behind x) k) e
-    where
-      behind : Dma → List ℕ
-      behind x = laid (drop registerCount fields) (otherWith u x)
-
-packed : (u : Reu) (d : DmaState) → Typed u → wellFormed u ≡ true → u .dma ≡ Running d → pairIn (packImage u) ≡ pairOf (d .remaining)
-packed u d typed ok e =
-    (λ i. (byte-behind u (typed .regs-long) (Running d) 18 e i, byte-behind u (typed .regs-long) (Running d) 19 e i))
-    ∙ bytes-of (d .remaining)
-
--- its bytes with the registers written out
+-- its bytes, with the registers written out
 module _ (u : Reu) (m : Dma) where
   abbrev written : List ℕ
   written = laid fields (gets 0 registerCount (u .regs) ++ otherWith u m)
 
   written-is : length (u .regs) ≡ registerCount → u .dma ≡ m → packImage u ≡ written
   unfolding packImage
-  written-is long e =
-      λ i. laid fields (sym (gets-all (u .regs) registerCount long) i ++ otherWith u (e i))
+  written-is long e = λ i. laid fields (sym (gets-all (u .regs) registerCount long) i ++ otherWith u (e i))
+
+packed : (u : Reu) (d : DmaState) → Typed u → wellFormed u ≡ true → u .dma ≡ Running d → pairIn (packImage u) ≡ pairOf (d .remaining)
+packed u d typed ok e = ap pairIn (written-is u (Running d) (typed .regs-long) e) ∙ bytes-of (d .remaining)
 
 -- ---- an image that is opened
 

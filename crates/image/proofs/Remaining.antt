@@ -1,22 +1,20 @@
 -- Remaining in two bytes, 0 meaning 65,536: it comes back, and so do they.
 use mathlib.Core.Path.{_≡_, sym, ap, _∙_}
-use mathlib.Core.Bool.{Bool, true, false, cond}
 use Prim.Native.Nat.{ℕ, _%_, _≤_, _<_}
 use native.Mathlib.Decide.{ℕ-discrete}
 use native.Mathlib.Nat.{mod-eq-of-lt}
 use native.Mathlib.Omega.{arith}
-use lib.Dec.{eqb}
 use borrow.Author.Tests.{eq-eqb, ne-eqb}
 use Rattle.transfer.specs.Constants.{fullLength}
 use Rattle.transfer.specs.Dma.{lengthOf}
 use Rattle.image.specs.Layout.{remainingNumber}
 
 -- a length of 0, and another
-pub length-full : (n : ℕ) → n ≡ 0 → lengthOf n ≡ fullLength
+length-full : (n : ℕ) → n ≡ 0 → lengthOf n ≡ fullLength
 unfolding lengthOf
 length-full n e = rw (eq-eqb n 0 e)
 
-pub length-plain : (n : ℕ) → (n ≡ 0 → ⊥) → lengthOf n ≡ n
+length-plain : (n : ℕ) → (n ≡ 0 → ⊥) → lengthOf n ≡ n
 unfolding lengthOf
 length-plain n ne = rw (ne-eqb n 0 ne)
 

@@ -1,10 +1,7 @@
 use mathlib.Core.Path.{_≡_, _∙_, ap, sym, subst}
-use native.Mathlib.Omega.{arith}
-use Rattle.transfer.specs.declared.dma.DmaState.{DmaState}
 use Rattle.transfer.specs.declared.dma.Dma.the-variants.{Idle, Running}
 use Rattle.controller.specs.Inner.{InRange, InRangeDma}
 use Rattle.image.specs.Layout.{transferNumbers}
-use Rattle.image.specs.Inner.{Room}
 use borrow.Author.Needs.{needs}
 use Rattle.image.proofs.pack.transfer_of.Statement.{statement}
 use Rattle.image.proofs.pack.transfer_of.Tie as tie
