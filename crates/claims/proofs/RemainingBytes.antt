@@ -73,8 +73,8 @@ module _ (u : Reu) (m : Dma) where
   unfolding packImage
   written-is long e = λ i. laid fields (sym (gets-all (u .regs) registerCount long) i ++ otherWith u (e i))
 
-packed : (u : Reu) (d : DmaState) → Typed u → wellFormed u ≡ true → u .dma ≡ Running d → pairIn (packImage u) ≡ pairOf (d .remaining)
-packed u d typed ok e = ap pairIn (written-is u (Running d) (typed .regs-long) e) ∙ bytes-of (d .remaining)
+packed : (u : Reu) (d : DmaState) → Typed u → u .dma ≡ Running d → pairIn (packImage u) ≡ pairOf (d .remaining)
+packed u d typed e = ap pairIn (written-is u (Running d) (typed .regs-long) e) ∙ bytes-of (d .remaining)
 
 -- ---- an image that is opened
 

@@ -12,7 +12,7 @@ use Rattle.transfer.specs.Bytes.{lowByte, highByte, word}
 use Rattle.transfer.specs.Constants.{fullLength}
 use Rattle.transfer.specs.Dma.{dmaOf, lengthOf}
 use Rattle.controller.specs.declared.reu.Reu.{Reu}
-use Rattle.controller.specs.Refusals.{wellFormed, refusalOf}
+use Rattle.controller.specs.Refusals.{refusalOf}
 use Rattle.controller.specs.Reu.{withDma}
 use Rattle.image.specs.Layout.{at, imageSize, placeOf, remaining, latch, options, grantedCycles, packImage}
 use Rattle.image.specs.Open.{openImage}
@@ -65,8 +65,7 @@ pub record RemainingBytes : Type 0 where
   pub places : map placeOf (remaining ∷ latch ∷ options ∷ grantedCycles ∷ []) ≡ 29 ∷ 31 ∷ 32 ∷ 33 ∷ []
   pub size : imageSize ≡ 37
   -- packing a controller puts its pair there, and opening an image takes the pair's remaining from there
-  pub packed :
-      (u : Reu) (d : DmaState) → Typed u → wellFormed u ≡ true → u .dma ≡ Running d → pairIn (packImage u) ≡ pairOf (d .remaining)
+  pub packed : (u : Reu) (d : DmaState) → Typed u → u .dma ≡ Running d → pairIn (packImage u) ≡ pairOf (d .remaining)
   pub opened :
       (image : List ℕ) (d : DmaState) → OpensAs image (Running d) → d .remaining ≡ remainingOf (pairIn image)
   -- any pair can stand there while a transfer runs, but in a verify tail: nothing else of the controller depends on it

@@ -37,7 +37,7 @@ fn long_of(lo: u8, hi: u8, bank: u8) -> u32
     (word_of(lo, hi) as u32) | ((bank as u32) << 16)
 }
 
-// Length 0 means 65,536: two bytes say how many are left, of the registers and of a saved transfer.
+// Length 0 means 65,536, in the two length registers and in the two bytes that a saved transfer has for what remains.
 pub fn length_of(n: u16) -> u32
     ensures { λ r. ⌜ r ≡ lengthOf n ⌝ }
 {
