@@ -75,7 +75,7 @@ Granted = BusAnswer × List ℕ
 
 unfoldable pub busAction : Reu → List ℕ → Bool → Bool → ℕ → Granted
 busAction u s high phi1 cycle =
-    (nextAction u high phi1 cycle, putStorage (nextAction u high phi1 cycle .put) s)
+    (nextAction u high phi1 cycle, putStorage (u .size) (nextAction u high phi1 cycle .put) s)
 
 -- "`cpu_ready_after_dma` is BA high or the release flag, and always clears the flag"
 abbrev pub cpuReadyAfterDma : Reu → Bool → FlagAnswer

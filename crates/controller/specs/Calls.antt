@@ -1,21 +1,21 @@
 -- The public calls on a controller value: "A refusal has value 0 and changes no controller and no byte of anything lent".
 use Rattle.controller.specs.Prelude.{ℕ, _+_, Bool, false, cond, List, length, Passed, Reu, Answer, StepAnswer, Stepped}
-use Rattle.transfer.specs.Constants.{busSize, storageSize}
+use Rattle.transfer.specs.Constants.{busSize}
 use Rattle.transfer.specs.Bytes.{bitOf}
 use Rattle.controller.specs.Registers.{readRegister, writeRegister, debugRegister}
 use Rattle.controller.specs.Timing.{c64Access}
 use Rattle.transfer.specs.Timing.{accessNumber, actionNumber}
 use Rattle.transfer.specs.Dma.{active, passedNumber}
 use Rattle.controller.specs.StartDma.{triggerFf00}
-use Rattle.controller.specs.Enable.{resetReu, setEnabled}
+use Rattle.controller.specs.Enable.{resetReu, setSize, setEnabled}
 use Rattle.controller.specs.BusAction.{Granted, busAction, cpuReadyAfterDma}
 use Rattle.controller.specs.TickDma.{Ticked, quietStep, tickDma}
 use Rattle.controller.specs.Cycle.{runReuCycle}
-use Rattle.controller.specs.Refusals.{refusalOf, checked}
+use Rattle.controller.specs.Refusals.{refusalOf, sizeRefusal, checked}
 
--- "Values: a byte; 0/1; ..; the capacity"
-abbrev pub capacity : Bool → ℕ
-capacity attached = cond attached storageSize 0
+-- "Values: a byte; 0/1; ..; the capacity". L4: "`capacity_bytes` gives it [the size] once attached"
+abbrev pub capacity : Reu → ℕ
+capacity u = cond (u .attached) (u .size) 0
 
 -- ---- accepted and refused; a call on the controller, with the storage, with bus and storage
 
@@ -26,7 +26,7 @@ abbrev pub refused : Reu → ℕ → Answer
 refused u n = record { refusal = n; value = 0; reu = u }
 
 abbrev pub call : Reu → Answer → Answer
-call u done = checked (refusalOf u busSize storageSize) (refused u) done
+call u done = checked (refusalOf u busSize (u .size)) (refused u) done
 
 abbrev pub callStorage : Reu → List ℕ → (Answer × List ℕ) → (Answer × List ℕ)
 callStorage u s done = checked (refusalOf u busSize (length s)) (λ n. (refused u n, s)) done
@@ -39,11 +39,14 @@ callBoth u m s done = checked (refusalOf u (length m) (length s)) (λ n. (quietS
 unfoldable pub resetCall : Reu → Answer
 resetCall u = call u (answered 0 (resetReu u))
 
+unfoldable pub setSizeCall : Reu → ℕ → Answer
+setSizeCall u size = checked (sizeRefusal u size) (refused u) (answered 0 (setSize u size))
+
 unfoldable pub storagePresentCall : Reu → Answer
 storagePresentCall u = call u (answered (bitOf (u .attached)) u)
 
 unfoldable pub capacityBytesCall : Reu → Answer
-capacityBytesCall u = call u (answered (capacity (u .attached)) u)
+capacityBytesCall u = call u (answered (capacity u) u)
 
 unfoldable pub triggerCall : Reu → Answer
 triggerCall u = call u (answered 0 (triggerFf00 u))

@@ -8,8 +8,8 @@ abbrev pub reg : Reu → ℕ → ℕ
 reg u i = held (u .regs) i
 
 abbrev pub reuOf :
-    List ℕ → ℕ → ℕ → ℕ → Bool → Bool → Bool → Bool → Bool → Bool → Bool → Bool → Bool → Bool → ℕ → Dma → ℕ → Reu
-reuOf r c e n enabled irq attached armed high repeat terminal late refresh release delay dma granted =
+    List ℕ → ℕ → ℕ → ℕ → Bool → Bool → Bool → Bool → Bool → Bool → Bool → Bool → Bool → Bool → ℕ → Dma → ℕ → ℕ → Reu
+reuOf r c e n enabled irq attached armed high repeat terminal late refresh release delay dma granted size =
     record {
       regs = r;
       «shadow_c64_addr» = c;
@@ -28,6 +28,7 @@ reuOf r c e n enabled irq attached armed high repeat terminal late refresh relea
       «swap_read_delay» = delay;
       dma = dma;
       «granted_cycles» = granted;
+      size = size;
     }
 
 -- ---- the registers, the shadows (C64 address, expansion address, length)
@@ -36,7 +37,7 @@ abbrev pub withRegs : Reu → List ℕ → Reu
 withRegs u r =
     reuOf r (u .«shadow_c64_addr») (u .«shadow_reu_addr») (u .«shadow_len») (u .enabled) (u .«irq_pending»)
     (u .attached) (u .«waiting_ff00») (u .«ba_was_high») (u .«recall_repeat») (u .«terminal_swap_write»)
-    (u .«late_ba_fall») (u .«swap_refresh») (u .«swap_release_pending») (u .«swap_read_delay») (u .dma) (u .«granted_cycles»)
+    (u .«late_ba_fall») (u .«swap_refresh») (u .«swap_release_pending») (u .«swap_read_delay») (u .dma) (u .«granted_cycles») (u .size)
 
 abbrev pub setReg : Reu → ℕ → ℕ → Reu
 setReg u i v = withRegs u (set (u .regs) i v)
@@ -45,7 +46,7 @@ abbrev pub withShadows : Reu → ℕ → ℕ → ℕ → Reu
 withShadows u c e n =
     reuOf (u .regs) c e n (u .enabled) (u .«irq_pending») (u .attached) (u .«waiting_ff00») (u .«ba_was_high»)
     (u .«recall_repeat») (u .«terminal_swap_write») (u .«late_ba_fall») (u .«swap_refresh»)
-    (u .«swap_release_pending») (u .«swap_read_delay») (u .dma) (u .«granted_cycles»)
+    (u .«swap_release_pending») (u .«swap_read_delay») (u .dma) (u .«granted_cycles») (u .size)
 
 -- ---- enabled, the interrupt level, attached, armed; the two flags of BA's history; the running command
 
@@ -53,7 +54,7 @@ abbrev pub withPower : Reu → Bool → Bool → Bool → Bool → Reu
 withPower u enabled irq attached armed =
     reuOf (u .regs) (u .«shadow_c64_addr») (u .«shadow_reu_addr») (u .«shadow_len») enabled irq attached armed
     (u .«ba_was_high») (u .«recall_repeat») (u .«terminal_swap_write») (u .«late_ba_fall») (u .«swap_refresh»)
-    (u .«swap_release_pending») (u .«swap_read_delay») (u .dma) (u .«granted_cycles»)
+    (u .«swap_release_pending») (u .«swap_read_delay») (u .dma) (u .«granted_cycles») (u .size)
 
 abbrev pub withIrq : Reu → Bool → Reu
 withIrq u irq = withPower u (u .enabled) irq (u .attached) (u .«waiting_ff00»)
@@ -65,14 +66,14 @@ abbrev pub withHistory : Reu → Bool → Bool → Reu
 withHistory u high late =
     reuOf (u .regs) (u .«shadow_c64_addr») (u .«shadow_reu_addr») (u .«shadow_len») (u .enabled)
     (u .«irq_pending») (u .attached) (u .«waiting_ff00») high (u .«recall_repeat») (u .«terminal_swap_write») late
-    (u .«swap_refresh») (u .«swap_release_pending») (u .«swap_read_delay») (u .dma) (u .«granted_cycles»)
+    (u .«swap_refresh») (u .«swap_release_pending») (u .«swap_read_delay») (u .dma) (u .«granted_cycles») (u .size)
 
 abbrev pub withDma : Reu → Dma → Reu
 withDma u dma =
     reuOf (u .regs) (u .«shadow_c64_addr») (u .«shadow_reu_addr») (u .«shadow_len») (u .enabled)
     (u .«irq_pending») (u .attached) (u .«waiting_ff00») (u .«ba_was_high») (u .«recall_repeat»)
     (u .«terminal_swap_write») (u .«late_ba_fall») (u .«swap_refresh») (u .«swap_release_pending»)
-    (u .«swap_read_delay») dma (u .«granted_cycles»)
+    (u .«swap_read_delay») dma (u .«granted_cycles») (u .size)
 
 -- ---- L1's number: how many cycles were granted
 
@@ -81,7 +82,16 @@ withGranted u n =
     reuOf (u .regs) (u .«shadow_c64_addr») (u .«shadow_reu_addr») (u .«shadow_len») (u .enabled)
     (u .«irq_pending») (u .attached) (u .«waiting_ff00») (u .«ba_was_high») (u .«recall_repeat»)
     (u .«terminal_swap_write») (u .«late_ba_fall») (u .«swap_refresh») (u .«swap_release_pending»)
-    (u .«swap_read_delay») (u .dma) n
+    (u .«swap_read_delay») (u .dma) n (u .size)
+
+-- ---- L4's number: the size that is set
+
+abbrev pub withSize : Reu → ℕ → Reu
+withSize u size =
+    reuOf (u .regs) (u .«shadow_c64_addr») (u .«shadow_reu_addr») (u .«shadow_len») (u .enabled)
+    (u .«irq_pending») (u .attached) (u .«waiting_ff00») (u .«ba_was_high») (u .«recall_repeat»)
+    (u .«terminal_swap_write») (u .«late_ba_fall») (u .«swap_refresh») (u .«swap_release_pending»)
+    (u .«swap_read_delay») (u .dma) (u .«granted_cycles») size
 
 -- ---- recall repeat, terminal write, refresh, release, delay
 
@@ -89,7 +99,7 @@ abbrev pub withPending : Reu → Bool → Bool → Bool → Bool → ℕ → Reu
 withPending u repeat terminal refresh release delay =
     reuOf (u .regs) (u .«shadow_c64_addr») (u .«shadow_reu_addr») (u .«shadow_len») (u .enabled)
     (u .«irq_pending») (u .attached) (u .«waiting_ff00») (u .«ba_was_high») repeat terminal (u .«late_ba_fall»)
-    refresh release delay (u .dma) (u .«granted_cycles»)
+    refresh release delay (u .dma) (u .«granted_cycles») (u .size)
 
 abbrev pub withRepeat : Reu → Bool → Reu
 withRepeat u v = withPending u v (u .«terminal_swap_write») (u .«swap_refresh») (u .«swap_release_pending») (u .«swap_read_delay»)

@@ -101,8 +101,8 @@ ticked flag p u = record { refusal = 0; flag = flag; passed = p; reu = u }
 abbrev pub quietStep : ℕ → Bool → Reu → StepAnswer
 quietStep n flag u = record { refusal = n; flag = flag; passed = neither; reu = u }
 
-abbrev pub landed : TickAnswer → List ℕ → List ℕ → Ticked
-landed t m s = (ticked (t .flag) (t .passed) (t .reu), putBus (t .put) m, putStorage (t .put) s)
+abbrev pub landed : ℕ → TickAnswer → List ℕ → List ℕ → Ticked
+landed size t m s = (ticked (t .flag) (t .passed) (t .reu), putBus (t .put) m, putStorage size (t .put) s)
 
 unfoldable pub tickDma : Reu → List ℕ → List ℕ → ℕ → Bool → Ticked
-tickDma u m s cycle low = landed (tickOf (u .dma) u (seenBy (u .dma) m s) cycle low) m s
+tickDma u m s cycle low = landed (u .size) (tickOf (u .dma) u (seenBy (u .size) (u .dma) m s) cycle low) m s

@@ -66,7 +66,7 @@ impl Reu {
         let action = answer.action;
         let put = answer.put;
         let reu = answer.reu;
-        put.to_storage(storage);
+        put.to_storage(self.size, storage);
         reu.cycle_by(action, bus, storage, cycle, ba_low)
     }
 }

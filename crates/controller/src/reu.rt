@@ -1,9 +1,9 @@
 // The controller, and its public calls. Each tests what it is handed, and answers a refusal, changing nothing, or does its work.
 ghost use mathlib.Core.Path.{_≡_};
 ghost use Rattle.transfer.specs.Bytes.{bitOf};
-ghost use Rattle.controller.specs.Enable.{disabled, fresh, newReu, resetReu, setEnabled};
+ghost use Rattle.controller.specs.Enable.{disabled, fresh, marked, newReu, resetReu, setEnabled, setSize};
 ghost use Rattle.controller.specs.TickDma.{quietStep};
-ghost use Rattle.controller.specs.Calls.{answered, busActionCall, c64AccessCall, call, capacity, capacityBytesCall, cpuReadyCall, cycleCall, debugRegisterCall, dmaActiveCall, numbered, readCall, refused, resetCall, setEnabledCall, storagePresentCall, tickCall, triggerCall, writeCall};
+ghost use Rattle.controller.specs.Calls.{answered, busActionCall, c64AccessCall, call, capacity, capacityBytesCall, cpuReadyCall, cycleCall, debugRegisterCall, dmaActiveCall, numbered, readCall, refused, resetCall, setEnabledCall, setSizeCall, storagePresentCall, tickCall, triggerCall, writeCall};
 use crate::constants::ACCEPTED;
 use crate::constants::BUS_BYTES;
 use crate::constants::REU_1764_CAPACITY_BYTES;
@@ -12,11 +12,13 @@ use regs::BANK_UNUSED_READ_HIGH;
 use regs::COMMAND_FF00_DISABLE;
 use regs::INTERRUPT_UNUSED_READ_HIGH;
 use regs::REGISTER_COUNT;
+use regs::STATUS;
 use regs::STATUS_VERSION;
 use transfer::Dma;
 use transfer::Passed;
 use transfer::Put;
 use transfer::ReuBusAction;
+use transfer::chip_mark;
 use transfer::clear;
 
 // The eleven registers beside the running command. The storage is the host's; `attached` says that it is there.
@@ -39,6 +41,8 @@ pub struct Reu {
     pub dma: Dma,
     // How many cycles were granted since new, reset or the last start that had storage.
     pub granted_cycles: u32,
+    // The size of the storage in bytes; STATUS has its mark.
+    pub size: u32,
 }
 
 // What `read` answers: the byte, and the controller after it.
@@ -91,12 +95,23 @@ pub struct Stepped {
     pub passed: Passed,
 }
 
+// A STATUS byte with the mark of a size.
+fn marked(size: u32, status: u8) -> u8
+    ensures { λ r. ⌜ r ≡ marked size status ⌝ }
+{
+    if chip_mark(size) {
+        status | STATUS_VERSION
+    } else {
+        status & !STATUS_VERSION
+    }
+}
+
 // A controller after reset.
-fn fresh(enabled: bool, attached: bool) -> Reu
-    ensures { λ r. ⌜ r ≡ fresh enabled attached ⌝ }
+fn fresh(enabled: bool, attached: bool, size: u32) -> Reu
+    ensures { λ r. ⌜ r ≡ fresh enabled attached size ⌝ }
 {
     let regs = [
-        STATUS_VERSION,
+        marked(size, 0),
         COMMAND_FF00_DISABLE,
         0,
         0,
@@ -127,6 +142,7 @@ fn fresh(enabled: bool, attached: bool) -> Reu
         swap_read_delay: 0,
         dma,
         granted_cycles: 0,
+        size,
     }
 }
 
@@ -134,13 +150,23 @@ impl Reu {
     pub fn new() -> Reu
         ensures { λ r. ⌜ r ≡ newReu ⌝ }
     {
-        fresh(false, false)
+        fresh(false, false, REU_1764_CAPACITY_BYTES)
     }
 
     pub(crate) fn after_reset(self) -> Reu
         ensures { λ r. ⌜ r ≡ resetReu self ⌝ }
     {
-        fresh(self.enabled, self.attached)
+        fresh(self.enabled, self.attached, self.size)
+    }
+
+    // Another size, with its mark in STATUS.
+    pub(crate) fn sized(mut self, size: u32) -> Reu
+        ensures { λ r. ⌜ r ≡ setSize self size ⌝ }
+    {
+        let status = self.regs[STATUS];
+        self.regs[STATUS] = marked(size, status);
+        self.size = size;
+        self
     }
 
     // Disabling drops the transfer, clears what a start clears, and lowers the interrupt.
@@ -179,17 +205,13 @@ fn flag_number(b: bool) -> u32
     if b { 1 } else { 0 }
 }
 
-fn capacity(attached: bool) -> u32
-    ensures { λ r. ⌜ r ≡ capacity attached ⌝ }
-{
-    if attached {
-        REU_1764_CAPACITY_BYTES as u32
-    } else {
-        0
-    }
-}
-
 impl Reu {
+    fn capacity(self) -> u32
+        ensures { λ r. ⌜ r ≡ capacity self ⌝ }
+    {
+        if self.attached { self.size } else { 0 }
+    }
+
     fn answered(self, value: u32) -> Answer
         ensures { λ r. ⌜ r ≡ answered value self ⌝ }
     {
@@ -230,7 +252,7 @@ impl Reu {
     fn tested(self, value: u32, after: Reu) -> Answer
         ensures { λ r. ⌜ r ≡ call self (answered value after) ⌝ }
     {
-        let refusal = self.refusal(BUS_BYTES, REU_1764_CAPACITY_BYTES);
+        let refusal = self.refusal(BUS_BYTES, self.size as usize);
         if refusal != ACCEPTED {
             return self.refused(refusal);
         }
@@ -244,6 +266,18 @@ impl Reu {
         self.tested(0, self.after_reset())
     }
 
+    // A size in bytes, before storage is attached: 131,072, 262,144 or 524,288.
+    pub fn set_size(self, size: u64) -> Answer
+        ensures { λ r. ⌜ r ≡ setSizeCall self size ⌝ }
+    {
+        let refusal = self.size_refusal(size);
+        if refusal != ACCEPTED {
+            return self.refused(refusal);
+        }
+        let reu = self.sized(size as u32);
+        reu.answered(0)
+    }
+
     pub fn storage_present(self) -> Answer
         ensures { λ r. ⌜ r ≡ storagePresentCall self ⌝ }
     {
@@ -253,7 +287,7 @@ impl Reu {
     pub fn capacity_bytes(self) -> Answer
         ensures { λ r. ⌜ r ≡ capacityBytesCall self ⌝ }
     {
-        self.tested(capacity(self.attached), self)
+        self.tested(self.capacity(), self)
     }
 
     pub fn trigger_ff00(self) -> Answer
@@ -333,7 +367,7 @@ impl Reu {
         let put = out.put;
         let reu = out.reu;
         let action = out.action;
-        put.to_storage(storage);
+        put.to_storage(self.size, storage);
         reu.answered(action.number())
     }
 

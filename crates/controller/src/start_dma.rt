@@ -69,6 +69,7 @@ impl Reu {
             swap_read_delay: self.swap_read_delay,
             dma,
             granted_cycles: self.granted_cycles,
+            size: self.size,
         }
     }
 

@@ -224,13 +224,13 @@ impl Reu {
         ensures { λ r. ⌜ (r, now (bus .exit), now (storage .exit)) ≡ tickDma self (now (bus .entry)) (now (storage .entry)) cycle «ba_low» ⌝ }
     {
         let dma = self.dma;
-        let seen = dma.seen(bus, storage);
+        let seen = dma.seen(self.size, bus, storage);
         let ticked = self.tick_of(dma, seen, cycle, ba_low);
         let put = ticked.put;
         let passed = ticked.passed;
         let reu = ticked.reu;
         put.to_bus(bus);
-        put.to_storage(storage);
+        put.to_storage(self.size, storage);
         StepAnswer {
             refusal: ACCEPTED,
             flag: ticked.flag,

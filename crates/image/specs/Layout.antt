@@ -1,5 +1,5 @@
 -- The image record: one list of fields, from which packing, opening, the ranges and every place follow.
-use Rattle.controller.specs.Prelude.{ℕ, _+_, _-_, _%_, _^_, Bool, cond, List, [], _∷_, eqb, getD, length, replicate}
+use Rattle.controller.specs.Prelude.{ℕ, _+_, _-_, _*_, _/_, _%_, _^_, Bool, cond, List, [], _∷_, eqb, getD, length, replicate}
 use Rattle.transfer.specs.declared.dma.SwapPhase.{SwapPhase}
 use Rattle.transfer.specs.declared.dma.SwapPhase.the-variants.{ReadC64, WriteC64}
 use Rattle.transfer.specs.declared.dma.DmaState.{DmaState}
@@ -25,7 +25,7 @@ fields =
     ∷ (3, expansionLimit)  -- shadow expansion
     ∷ (2, 65536)  -- shadow length
     ∷ (1, 2 ^ 8)  -- flags
-    ∷ (1, 2 ^ 2)  -- more flags
+    ∷ (1, 4 * 3)  -- more flags, and the size
     ∷ (1, 3)  -- delay
     ∷ (1, 2)  -- transfer present
     ∷ (1, 4)  -- type
@@ -113,9 +113,16 @@ flagBits r =
     r .enabled ∷ r .«irq_pending» ∷ r .attached ∷ r .«waiting_ff00» ∷ r .«ba_was_high» ∷ r .«recall_repeat» ∷ r .«terminal_swap_write»
     ∷ r .«late_ba_fall» ∷ []
 
--- "19 bit 0 refresh, bit 1 release, others 0"
+-- "19 bit 0 refresh, bit 1 release"
 abbrev pub moreBits : Reu → List Bool
 moreBits r = r .«swap_refresh» ∷ r .«swap_release_pending» ∷ []
+
+-- L4: "Byte 19 bits 2-3 hold 0 for 512 KiB, 1 for 256, 2 for 128"
+abbrev pub sizeCode : ℕ → ℕ
+sizeCode size = cond (eqb size 524288) 0 (cond (eqb size 262144) 1 2)
+
+abbrev pub moreNumber : Reu → ℕ
+moreNumber r = flagsOf (moreBits r) + 4 * sizeCode (r .size)
 
 -- "from bit 0: fix C64, fix expansion, Autoload, first byte, odd parity, tail, others 0"
 abbrev pub optionBits : DmaState → List Bool
@@ -140,7 +147,7 @@ transferNumbers (Running d) =
 -- the numbers behind the registers, of a controller that runs m
 abbrev pub otherWith : Reu → Dma → List ℕ
 otherWith r m =
-    r .«shadow_c64_addr» ∷ r .«shadow_reu_addr» ∷ r .«shadow_len» ∷ flagsOf (flagBits r) ∷ flagsOf (moreBits r) ∷ r .«swap_read_delay»
+    r .«shadow_c64_addr» ∷ r .«shadow_reu_addr» ∷ r .«shadow_len» ∷ flagsOf (flagBits r) ∷ moreNumber r ∷ r .«swap_read_delay»
     ∷ present m ∷ (transferNumbers m ++ (r .«granted_cycles» ∷ []))
 
 abbrev pub otherNumbers : Reu → List ℕ
@@ -160,6 +167,10 @@ at s i = getD s i 0
 
 abbrev pub phaseOf : ℕ → SwapPhase
 phaseOf n = cond (eqb n 0) ReadC64 WriteC64
+
+-- the size of a code; 3 is outside the range
+abbrev pub sizeOf : ℕ → ℕ
+sizeOf code = cond (eqb code 0) 524288 (cond (eqb code 1) 262144 131072)
 
 -- a remaining of 0 means 65,536 as a length of 0 does
 abbrev pub transferOf : List ℕ → DmaState
@@ -200,6 +211,7 @@ controllerOf ns = record {
   «swap_read_delay» = at ns delay;
   dma = dmaIn ns;
   «granted_cycles» = at ns grantedCycles;
+  size = sizeOf (at ns moreFlags / 4);
 }
 
 unfoldable pub reuAt : List ℕ → Reu

@@ -33,7 +33,7 @@ ghost use Rattle.controller.specs.Refusals.{wellFormed};
 ghost use Rattle.image.specs.Radix.{parted, product};
 ghost use Rattle.controller.specs.Inner.{InRangeDma};
 ghost use Rattle.image.specs.Fields.{laid, radices};
-ghost use Rattle.image.specs.Layout.{flagBits, flagsOf, imageSize, kind, moreBits, optionBits, packImage, phaseNumber, placeOf, present, transferNumbers};
+ghost use Rattle.image.specs.Layout.{flagBits, flagsOf, imageSize, kind, moreNumber, optionBits, packImage, phaseNumber, placeOf, present, sizeCode, transferNumbers};
 ghost use Rattle.image.specs.Inner.{Room, transferPart};
 
 // ---- a number in the bytes from a place to before an end, the low byte first
@@ -99,10 +99,24 @@ fn flags(r: Reu) -> u8
         + 128 * bit(r.late_ba_fall)
 }
 
-fn more_flags(r: Reu) -> u8
-    ensures { λ n. ⌜ n ≡ flagsOf (moreBits r) ⌝ }
+// 512, 256 or 128 KiB.
+fn size_code(size: u32) -> u8
+    ensures { λ n. ⌜ n ≡ sizeCode size ⌝ }
+    ensures { λ n. ⌜ n ≤ 2 ⌝ }
 {
-    bit(r.swap_refresh) + 2 * bit(r.swap_release_pending)
+    if size == 524_288 {
+        0
+    } else if size == 262_144 {
+        1
+    } else {
+        2
+    }
+}
+
+fn more_flags(r: Reu) -> u8
+    ensures { λ n. ⌜ n ≡ moreNumber r ⌝ }
+{
+    bit(r.swap_refresh) + 2 * bit(r.swap_release_pending) + 4 * size_code(r.size)
 }
 
 fn options(d: DmaState) -> u8

@@ -14,7 +14,7 @@ ghost use lib.ListN.{drop, length, take};
 ghost use Rattle.transfer.specs.Constants.{registerCount};
 ghost use Rattle.image.specs.Radix.{below, joined, product};
 ghost use Rattle.image.specs.Fields.{lifted, radices, values};
-ghost use Rattle.image.specs.Layout.{at, dmaIn, fields, imageSize, kind, phaseOf, reuAt, transferFields, transferOf};
+ghost use Rattle.image.specs.Layout.{at, dmaIn, fields, imageSize, kind, phaseOf, reuAt, sizeOf, transferFields, transferOf};
 ghost use Rattle.image.specs.Inner.{gets};
 ghost use Rattle.image.specs.Open.{allZero, bytesOk};
 
@@ -49,6 +49,18 @@ fn phase_of(n: u8) -> SwapPhase
         SwapPhase::ReadC64
     } else {
         SwapPhase::WriteC64
+    }
+}
+
+fn size_of(code: u8) -> u32
+    ensures { λ r. ⌜ r ≡ sizeOf code ⌝ }
+{
+    if code == 0 {
+        524_288
+    } else if code == 1 {
+        262_144
+    } else {
+        131_072
     }
 }
 
@@ -136,6 +148,7 @@ pub(crate) fn controller_at(image: &[u8]) -> Reu
         swap_read_delay: image[layout::DELAY],
         dma: dma,
         granted_cycles: get(image, layout::GRANTED_CYCLES, layout::IMAGE_BYTES),
+        size: size_of(more / 4),
     }
 }
 
@@ -146,7 +159,7 @@ fn ranges_ok(image: &[u8]) -> bool
     requires { ⌜ length (now image) ≡ imageSize ⌝ }
     ensures { λ r. ⌜ r ≡ below (values fields) (lifted fields (now (image .entry))) ⌝ }
 {
-    (image[layout::MORE_FLAGS] < 4)
+    (image[layout::MORE_FLAGS] < 12)
         & (image[layout::DELAY] < 3)
         & (image[layout::TRANSFER] < 2)
         & (image[layout::TYPE] < 4)

@@ -5,7 +5,7 @@ use Rattle.controller.specs.declared.reu.Reu.{Reu}
 use Rattle.controller.specs.Enable.{newReu}
 use Rattle.controller.specs.Refusals.{checked}
 use Rattle.controller.specs.TickDma.{Ticked}
-use Rattle.controller.specs.Calls.{numbered, resetCall, setEnabledCall, storagePresentCall, capacityBytesCall, triggerCall, readCall, writeCall, dmaActiveCall, busActionCall, cpuReadyCall, debugRegisterCall, c64AccessCall, tickCall, cycleCall}
+use Rattle.controller.specs.Calls.{numbered, resetCall, setSizeCall, setEnabledCall, storagePresentCall, capacityBytesCall, triggerCall, readCall, writeCall, dmaActiveCall, busActionCall, cpuReadyCall, debugRegisterCall, c64AccessCall, tickCall, cycleCall}
 use Rattle.image.specs.Layout.{imageSize, packImage}
 use Rattle.image.specs.Open.{openImage}
 
@@ -60,6 +60,10 @@ reuNew i = cond (eqb (length i) imageSize) (0, packImage newReu) (refusal 1, i)
 
 abbrev pub reuReset : List ℕ → ℕ → (ℕ × List ℕ)
 reuReset i hard = change resetCall i
+
+-- L4
+abbrev pub reuSetSize : List ℕ → ℕ → (ℕ × List ℕ)
+reuSetSize i size = change (λ u. setSizeCall u size) i
 
 abbrev pub reuSetEnabled : List ℕ → List ℕ → ℕ → (ℕ × List ℕ × List ℕ)
 reuSetEnabled i s enabled = changeStorage (λ u t. setEnabledCall u t (flag enabled)) i s

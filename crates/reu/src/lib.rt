@@ -1,7 +1,7 @@
 // The exported calls: a controller by its image, and the bus and the storage that the host lends.
 // Each answers a value, or 16,777,216 times a refusal number, and then nothing that is lent has changed.
 ghost use mathlib.Core.Path.{_≡_};
-ghost use Rattle.reu.specs.Exports.{changed, code, refusal, reuBusAction, reuC64Access, reuCapacityBytes, reuCpuReady, reuCycle, reuDebugRegister, reuDmaActive, reuNew, reuRead, reuReset, reuSetEnabled, reuStoragePresent, reuTickDma, reuTriggerFf00, reuWrite};
+ghost use Rattle.reu.specs.Exports.{changed, code, refusal, reuBusAction, reuC64Access, reuCapacityBytes, reuCpuReady, reuCycle, reuDebugRegister, reuDmaActive, reuNew, reuRead, reuReset, reuSetEnabled, reuSetSize, reuStoragePresent, reuTickDma, reuTriggerFf00, reuWrite};
 ghost use Rattle.reu.specs.Inner.{Carried, Kept};
 use controller::Answer;
 use controller::Reu;
@@ -58,6 +58,20 @@ pub extern "C" fn reu_reset(image: &mut [u8], hard_reset: u32) -> u32
     }
     let reu = opened.reu;
     let answer = reu.reset(hard_reset != 0);
+    finish(image, answer)
+}
+
+#[no_mangle]
+pub extern "C" fn reu_set_size(image: &mut [u8], size: u64) -> u32
+    ensures { λ r. ⌜ (r, now (image .exit)) ≡ reuSetSize (now (image .entry)) size ⌝ }
+{
+    let opened = image::open(image);
+    let refusal = opened.refusal;
+    if refusal != ACCEPTED {
+        return refused(refusal);
+    }
+    let reu = opened.reu;
+    let answer = reu.set_size(size);
     finish(image, answer)
 }
 

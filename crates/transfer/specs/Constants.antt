@@ -88,7 +88,7 @@ maskOnes = 0 ∷ 1 ∷ 2 ∷ 3 ∷ 4 ∷ []
 abbrev pub controlOnes : List ℕ
 controlOnes = 0 ∷ 1 ∷ 2 ∷ 3 ∷ 4 ∷ 5 ∷ []
 
--- ---- sizes: a C64 address has 16 bits, an expansion address 24; "524,288 bytes"; "Length 0 means 65,536"
+-- ---- sizes: a C64 address has 16 bits, an expansion address 24; "524,288 bytes" is a new controller's; "Length 0 means 65,536"
 
 abbrev pub busSize : ℕ
 busSize = 65536
@@ -96,8 +96,8 @@ busSize = 65536
 abbrev pub expansionLimit : ℕ
 expansionLimit = 16777216
 
-abbrev pub storageSize : ℕ
-storageSize = 524288
+abbrev pub newSize : ℕ
+newSize = 524288
 
 abbrev pub fullLength : ℕ
 fullLength = 65536

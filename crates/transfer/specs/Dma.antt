@@ -122,9 +122,9 @@ abbrev pub latched : DmaState → Seen → ℕ → DmaState
 latched d b cycle = withPhase (withLatch (withOdd d (bit cycle 0)) (b .storage)) WriteC64
 
 -- the bytes that a running transfer sees; none counts where there is no transfer
-abbrev pub seenBy : Dma → List ℕ → List ℕ → Seen
-seenBy Idle m s = record { bus = 0; storage = 0 }
-seenBy (Running d) m s = seenAt (d .«c64_addr») (d .«reu_addr») m s
+abbrev pub seenBy : ℕ → Dma → List ℕ → List ℕ → Seen
+seenBy size Idle m s = record { bus = 0; storage = 0 }
+seenBy size (Running d) m s = seenAt size (d .«c64_addr») (d .«reu_addr») m s
 
 -- ---- "Refused, by who can cause it"
 

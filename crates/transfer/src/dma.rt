@@ -124,15 +124,15 @@ impl Dma {
     }
 
     // The bytes that a tick sees.
-    pub fn seen(self, bus: &[u8], storage: &[u8]) -> Seen
-        ensures { λ r. ⌜ r ≡ seenBy self (now (bus .entry)) (now (storage .entry)) ⌝ }
+    pub fn seen(self, size: u32, bus: &[u8], storage: &[u8]) -> Seen
+        ensures { λ r. ⌜ r ≡ seenBy size self (now (bus .entry)) (now (storage .entry)) ⌝ }
     {
         match self {
             Dma::Idle => Seen { bus: 0, storage: 0 },
             Dma::Running(d) => {
                 let c64 = d.c64_addr;
                 let reu = d.reu_addr;
-                seen_at(c64, reu, bus, storage)
+                seen_at(size, c64, reu, bus, storage)
             }
         }
     }

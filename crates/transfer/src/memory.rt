@@ -1,8 +1,11 @@
 // The addresses, and the bytes of the bus and of the expansion's storage.
 ghost use mathlib.Core.Path.{_≡_};
 ghost use mathlib.Core.Bool.{cond};
-ghost use Rattle.transfer.specs.Memory.{busByte, nextC64, nextExp, physicalOffset, putBus, putStorage, seenAt, storageByte, zeros};
+ghost use Rattle.transfer.specs.Memory.{busByte, chipMark, isSize, lines, nextC64, nextExp, physicalOffset, putBus, putStorage, seenAt, storageByte, zeros};
+use crate::constants::CAPACITY_WITHOUT_MARK;
 use crate::constants::EXPANSION_ADDRESS_LIMIT;
+use crate::constants::FEWEST_LINES;
+use crate::constants::MOST_LINES;
 
 // A C64 address, 16 bits.
 pub struct C64Address(pub u16);
@@ -13,8 +16,27 @@ pub struct ExpansionAddress(pub u32);
 // An offset in the storage, after folding.
 pub struct Offset(pub u32);
 
-// Nineteen address lines are connected.
-const CAPACITY: u32 = 524_288;
+// How many address lines a storage of this size has connected.
+fn lines(size: u64) -> u32
+    ensures { λ r. ⌜ r ≡ lines size ⌝ }
+{
+    u64::trailing_zeros(size)
+}
+
+// A size that may be set, in bytes.
+pub fn is_size(size: u64) -> bool
+    ensures { λ r. ⌜ r ≡ isSize size ⌝ }
+{
+    let connected = lines(size);
+    (u64::count_ones(size) == 1) & ((FEWEST_LINES <= connected) & (connected <= MOST_LINES))
+}
+
+// The chip-size mark in STATUS.
+pub fn chip_mark(size: u32) -> bool
+    ensures { λ r. ⌜ r ≡ chipMark size ⌝ }
+{
+    size != CAPACITY_WITHOUT_MARK
+}
 
 impl C64Address {
     // The next address, unless it is fixed.
@@ -30,10 +52,16 @@ impl C64Address {
 }
 
 impl ExpansionAddress {
-    pub fn physical_offset(self) -> Offset
-        ensures { λ r. ⌜ r ≡ physicalOffset self ⌝ }
+    // The bits of the connected lines; 32 lines or more would keep them all.
+    pub fn physical_offset(self, size: u32) -> Offset
+        ensures { λ r. ⌜ r ≡ physicalOffset size self ⌝ }
     {
-        Offset(self.0 % CAPACITY)
+        let connected = lines(size as u64);
+        if connected < 32 {
+            Offset(self.0 & ((1 << connected) - 1))
+        } else {
+            Offset(self.0)
+        }
     }
 
     // The next address, unless it is fixed.
@@ -57,10 +85,10 @@ fn bus_byte(bus: &[u8], addr: C64Address) -> u8
     if at < bus.len() { bus[at] } else { 0 }
 }
 
-fn storage_byte(storage: &[u8], addr: ExpansionAddress) -> u8
-    ensures { λ r. ⌜ r ≡ storageByte (now (storage .entry)) addr ⌝ }
+fn storage_byte(size: u32, storage: &[u8], addr: ExpansionAddress) -> u8
+    ensures { λ r. ⌜ r ≡ storageByte size (now (storage .entry)) addr ⌝ }
 {
-    let offset = addr.physical_offset();
+    let offset = addr.physical_offset(size);
     let at = offset.0 as usize;
     if at < storage.len() { storage[at] } else { 0 }
 }
@@ -71,12 +99,18 @@ pub struct Seen {
     pub storage: u8,
 }
 
-pub fn seen_at(c64: C64Address, reu: ExpansionAddress, bus: &[u8], storage: &[u8]) -> Seen
-    ensures { λ r. ⌜ r ≡ seenAt c64 reu (now (bus .entry)) (now (storage .entry)) ⌝ }
+pub fn seen_at(
+    size: u32,
+    c64: C64Address,
+    reu: ExpansionAddress,
+    bus: &[u8],
+    storage: &[u8],
+) -> Seen
+    ensures { λ r. ⌜ r ≡ seenAt size c64 reu (now (bus .entry)) (now (storage .entry)) ⌝ }
 {
     Seen {
         bus: bus_byte(bus, c64),
-        storage: storage_byte(storage, reu),
+        storage: storage_byte(size, storage, reu),
     }
 }
 
@@ -103,14 +137,14 @@ impl Put {
         }
     }
 
-    pub fn to_storage(self, storage: &mut [u8])
-        ensures { λ _. ⌜ now (storage .exit) ≡ putStorage self (now (storage .entry)) ⌝ }
+    pub fn to_storage(self, size: u32, storage: &mut [u8])
+        ensures { λ _. ⌜ now (storage .exit) ≡ putStorage size self (now (storage .entry)) ⌝ }
     {
         match self {
             Put::Nothing => {}
             Put::Bus(_, _) => {}
             Put::Storage(addr, value) => {
-                let offset = addr.physical_offset();
+                let offset = addr.physical_offset(size);
                 let at = offset.0 as usize;
                 if at < storage.len() {
                     storage[at] = value;
