@@ -4,8 +4,17 @@
 
 /// Bytes of a bus.
 pub const BUS_SIZE: usize = 65536;
-/// Bytes of a storage.
-pub const STORAGE_SIZE: usize = 524288;
+/// Bytes of a storage for which no other size is set: [`SIZE_512K`].
+pub const STORAGE_SIZE: usize = SIZE_512K;
+
+// Sizes of a storage, for `set_size`.
+
+/// The 1700's.
+pub const SIZE_128K: usize = 131072;
+/// The 1764's.
+pub const SIZE_256K: usize = 262144;
+/// The 1750's.
+pub const SIZE_512K: usize = 524288;
 
 // Refusals: an answer's bits from 24 on.
 
@@ -17,8 +26,12 @@ pub const REFUSED_IMAGE_LENGTH: u32 = 1;
 pub const REFUSED_IMAGE_FIELD: u32 = 2;
 /// The bus's length is not [`BUS_SIZE`].
 pub const REFUSED_BUS_LENGTH: u32 = 3;
-/// The storage's length is not [`STORAGE_SIZE`].
+/// The storage's length is not the size that is set.
 pub const REFUSED_STORAGE_LENGTH: u32 = 4;
+/// The size is none of [`SIZE_128K`], [`SIZE_256K`] and [`SIZE_512K`].
+pub const REFUSED_SIZE: u32 = 5;
+/// A size cannot be set once storage is attached.
+pub const REFUSED_ATTACHED: u32 = 6;
 
 // Grants: the value of `bus_action`.
 

@@ -9,6 +9,7 @@
 unsafe extern "C" {
     pub fn reu_new(image: *mut u8, image_len: usize) -> u32;
     pub fn reu_reset(image: *mut u8, image_len: usize, hard_reset: u32) -> u32;
+    pub fn reu_set_size(image: *mut u8, image_len: usize, size: u64) -> u32;
     pub fn reu_set_enabled(image: *mut u8, image_len: usize, storage: *mut u8, storage_len: usize, enabled: u32)
     -> u32;
     pub fn reu_storage_present(image: *const u8, image_len: usize) -> u32;
