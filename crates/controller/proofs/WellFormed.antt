@@ -5,9 +5,10 @@ use Prim.Native.Nat.{_≤_, _<_}
 use lib.Dec.{leb, ltb}
 use borrow.Author.Tests.{leb-true, ltb-true}
 use Rattle.controller.specs.Prelude.{Reu, Dma, Idle, Running, DmaState}
-use Rattle.transfer.specs.Constants.{expansionLimit, fullLength}
+use Rattle.transfer.specs.Constants.{status, expansionLimit, fullLength}
 use Rattle.controller.specs.Inner.{InRange, InRangeDma}
-use Rattle.controller.specs.Refusals.{wellFormed}
+use Rattle.controller.specs.Refusals.{wellFormed, wellSize}
+use Rattle.controller.specs.Reu.{reg}
 use Rattle.transfer.specs.Dma.{wellTransfer, wellDma}
 
 pub fst : (a b : Bool) → (a && b) ≡ true → a ≡ true
@@ -36,7 +37,12 @@ pub well-range : (u : Reu) → wellFormed u ≡ true → InRangeDma (u .dma)
 unfolding wellFormed
 well-range u e =
     well-dma (u .attached) (u .dma)
-    (snd (ltb (u .«shadow_reu_addr») expansionLimit) _ (snd (leb (u .«swap_read_delay») 2) _ e))
+    (fst (wellDma (u .attached) (u .dma)) _ (snd (ltb (u .«shadow_reu_addr») expansionLimit) _ (snd (leb (u .«swap_read_delay») 2) _ e)))
+
+pub well-size : (u : Reu) → wellFormed u ≡ true → wellSize (u .size) (reg u status) ≡ true
+unfolding wellFormed
+well-size u e =
+    snd (wellDma (u .attached) (u .dma)) _ (snd (ltb (u .«shadow_reu_addr») expansionLimit) _ (snd (leb (u .«swap_read_delay») 2) _ e))
 
 pub well-delay : (u : Reu) → wellFormed u ≡ true → u .«swap_read_delay» ≤ 2
 unfolding wellFormed

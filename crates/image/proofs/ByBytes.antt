@@ -13,7 +13,7 @@ use Rattle.transfer.specs.declared.dma.Dma.{Dma}
 use Rattle.transfer.specs.declared.dma.Dma.the-variants.{Idle, Running}
 use Rattle.image.specs.Radix.{parted, below}
 use Rattle.image.specs.Fields.{radices, values, laid, lifted}
-use Rattle.image.specs.Layout.{fields, imageSize, at, shadowC64, shadowExp, shadowLength, flags, moreFlags, delay, transfer, kind, grantedCycles, placeOf, flagsOf, flagBits, moreBits, present, transferFields, transferNumbers, otherWith, packImage, transferOf, dmaIn}
+use Rattle.image.specs.Layout.{fields, imageSize, at, shadowC64, shadowExp, shadowLength, flags, moreFlags, delay, transfer, kind, grantedCycles, placeOf, flagsOf, flagBits, moreNumber, present, transferFields, transferNumbers, otherWith, packImage, transferOf, dmaIn}
 use Rattle.image.specs.Inner.{transferPart}
 use Rattle.image.specs.Open.{allZero, bytesOk}
 use Rattle.image.proofs.Fields.{needed, needed-are, allTrue, lifted-below}
@@ -73,7 +73,7 @@ module _ (r : Reu) where
   laidOver m regs out =
       let l1 : List ℕ = stored shadowC64 (take (length regs) regs ++ drop (length regs) out) (r .«shadow_c64_addr») in
       let l2 : List ℕ = stored shadowLength (stored shadowExp l1 (r .«shadow_reu_addr»)) (r .«shadow_len») in
-      let l3 : List ℕ = stored moreFlags (stored flags l2 (flagsOf (flagBits r))) (flagsOf (moreBits r)) in
+      let l3 : List ℕ = stored moreFlags (stored flags l2 (flagsOf (flagBits r))) (moreNumber r) in
       let l4 : List ℕ = stored transfer (stored delay l3 (r .«swap_read_delay»)) (present m) in
       stored grantedCycles (sets l4 (placeOf kind) (laid transferPart (transferNumbers m))) (r .«granted_cycles»)
 

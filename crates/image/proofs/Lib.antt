@@ -6,6 +6,7 @@ pub mod Opening
 pub mod ByBytes
 pub mod Bytes
 pub mod Remaining
+pub mod Size
 pub mod Packed
 pub mod Unpacked
 pub mod Sound

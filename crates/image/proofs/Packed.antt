@@ -16,13 +16,14 @@ use Rattle.transfer.specs.declared.dma.SwapPhase.{SwapPhase}
 use Rattle.transfer.specs.declared.dma.SwapPhase.the-variants.{ReadC64, WriteC64}
 use Rattle.controller.specs.Reu.{withRegs}
 use Rattle.transfer.specs.Dma.{typeNumber, typeOf}
+use Rattle.transfer.specs.Memory.{isSize}
 use Rattle.controller.specs.Refusals.{wellFormed}
 use Rattle.controller.specs.Inner.{InRange, InRangeDma}
-use Rattle.controller.proofs.WellFormed.{well-range, well-shadow, well-delay}
+use Rattle.controller.proofs.WellFormed.{fst, well-range, well-shadow, well-delay, well-size}
 use Rattle.image.specs.Radix.{below}
 use Rattle.transfer.specs.Constants.{registerCount}
 use Rattle.image.specs.Fields.{radices, values, laid, lifted}
-use Rattle.image.specs.Layout.{fields, imageSize, at, kind, grantedCycles, phaseNumber, phaseOf, present, flagBits, moreBits, optionBits, transferFields, transferNumbers, otherWith, otherNumbers, numbersOf, packImage, transferOf, controllerOf, reuAt}
+use Rattle.image.specs.Layout.{fields, imageSize, at, kind, grantedCycles, phaseNumber, phaseOf, present, flagBits, moreBits, sizeCode, optionBits, transferFields, transferNumbers, otherWith, otherNumbers, numbersOf, packImage, transferOf, controllerOf, reuAt}
 use Rattle.image.specs.Open.{allZero, idleOk, bytesOk, imageOk, openImage}
 use Rattle.image.specs.Valid.{Typed, DmaTyped, Bytes}
 use Rattle.image.proofs.Radix.{Below}
@@ -31,6 +32,7 @@ use Rattle.image.proofs.Flags.{flag-back, flags-below}
 use Rattle.image.specs.Inner.{gets}
 use Rattle.image.proofs.Gets.{gets-all}
 use Rattle.image.proofs.Remaining.{remaining-back}
+use Rattle.image.proofs.Size.{code-most, more-bit, more-size}
 use Rattle.image.proofs.Opening.{open-good}
 
 type-back : (t : TransferType) → typeOf (typeNumber t) ≡ t
@@ -62,9 +64,9 @@ phase-below WriteC64 = omega arith
 module _ (r : Reu) (typed : Typed r) (ok : wellFormed r ≡ true) where
   below-with : (m : Dma) → DmaTyped m → InRangeDma m → Below (drop registerCount (values fields)) (otherWith r m)
   below-with Idle h s =
-      omega (arith, typed .c64-fits, well-shadow r ok, typed .len-fits, flags-below (flagBits r), flags-below (moreBits r), well-delay r ok, typed .granted-fits)
+      omega (arith, typed .c64-fits, well-shadow r ok, typed .len-fits, flags-below (flagBits r), flags-below (moreBits r), code-most (r .size), well-delay r ok, typed .granted-fits)
   below-with (Running d) h s =
-      omega (arith, typed .c64-fits, well-shadow r ok, typed .len-fits, flags-below (flagBits r), flags-below (moreBits r), well-delay r ok, type-below (d .«transfer_type»), phase-below (d .«swap_phase»), h .0, h .1, s .addr, s .high, flags-below (optionBits d), typed .granted-fits)
+      omega (arith, typed .c64-fits, well-shadow r ok, typed .len-fits, flags-below (flagBits r), flags-below (moreBits r), code-most (r .size), well-delay r ok, type-below (d .«transfer_type»), phase-below (d .«swap_phase»), h .0, h .1, s .addr, s .high, flags-below (optionBits d), typed .granted-fits)
 
   numbers-below : Below (values fields) (numbersOf r)
   numbers-below =
@@ -132,8 +134,8 @@ module _ (r : Reu) where
   abbrev listed : Reu
   listed = withRegs r (gets 0 registerCount (r .regs))
 
-  listed-back : InRangeDma (r .dma) → controllerOf (numbersOf listed) ≡ listed
-  listed-back s = λ i. record {
+  listed-back : InRangeDma (r .dma) → isSize (r .size) ≡ true → controllerOf (numbersOf listed) ≡ listed
+  listed-back s z = λ i. record {
     regs = gets 0 registerCount (r .regs);
     «shadow_c64_addr» = r .«shadow_c64_addr»;
     «shadow_reu_addr» = r .«shadow_reu_addr»;
@@ -146,11 +148,12 @@ module _ (r : Reu) where
     «recall_repeat» = flag-back (flagBits r) 5 (omega arith) i;
     «terminal_swap_write» = flag-back (flagBits r) 6 (omega arith) i;
     «late_ba_fall» = flag-back (flagBits r) 7 (omega arith) i;
-    «swap_refresh» = flag-back (moreBits r) 0 (omega arith) i;
-    «swap_release_pending» = flag-back (moreBits r) 1 (omega arith) i;
+    «swap_refresh» = (more-bit (moreBits r) (sizeCode (r .size)) 0 (omega arith) ∙ flag-back (moreBits r) 0 (omega arith)) i;
+    «swap_release_pending» = (more-bit (moreBits r) (sizeCode (r .size)) 1 (omega arith) ∙ flag-back (moreBits r) 1 (omega arith)) i;
     «swap_read_delay» = r .«swap_read_delay»;
     dma = dma-back (r .dma) (r .«granted_cycles») s i;
     «granted_cycles» = granted-back (r .dma) (r .«granted_cycles») i;
+    size = more-size (moreBits r) (r .size) (flags-below (moreBits r)) z i;
   }
 
 module _ (r : Reu) (typed : Typed r) (ok : wellFormed r ≡ true) where
@@ -164,7 +167,7 @@ module _ (r : Reu) (typed : Typed r) (ok : wellFormed r ≡ true) where
 
   image-back : reuAt (packImage r) ≡ r
   unfolding reuAt
-  image-back = ap controllerOf numbers-back ∙ subst (λ (u : Reu). controllerOf (numbersOf u) ≡ u) listed-is (listed-back r (well-range r ok))
+  image-back = ap controllerOf numbers-back ∙ subst (λ (u : Reu). controllerOf (numbersOf u) ≡ u) listed-is (listed-back r (well-range r ok) (fst (isSize (r .size)) _ (well-size r ok)))
 
   idle-ok : idleOk (numbersOf r) ≡ true
   idle-ok = subst (λ (u : Reu). idleOk (numbersOf u) ≡ true) listed-is (idle-good (r .dma) (r .«granted_cycles»))

@@ -30,7 +30,7 @@ use Rattle.transfer.specs.Bytes.{bit, word}
 use Rattle.controller.specs.Reu.{reg, setReg, withRegs, withArmed, withDma, withHistory, withRepeat, withRelease}
 use Rattle.transfer.specs.Dma.{withLatch}
 use Rattle.controller.specs.Registers.{readRegister, writeRegister, writeCommand}
-use Rattle.transfer.specs.Memory.{nextC64, nextExp, putBus, putStorage, zeros}
+use Rattle.transfer.specs.Memory.{isSize, nextC64, nextExp, putBus, putStorage, zeros}
 use Rattle.controller.specs.Timing.{c64Access}
 use Rattle.transfer.specs.Timing.{reads, writes}
 use Rattle.transfer.specs.Dma.{isType, lengthOf, moved, recalled, firstByte, lastByte}
@@ -38,7 +38,7 @@ use Rattle.regs.specs.StartDma.{requested}
 use Rattle.controller.specs.StartDma.{startDma, triggerFf00}
 use Rattle.regs.specs.FinishDma.{irqDue, finishedCommand, autoloaded, finished}
 use Rattle.controller.specs.FinishDma.{updateIrq, publishLiveCounters, finishDma}
-use Rattle.controller.specs.Enable.{fresh, setEnabled}
+use Rattle.controller.specs.Enable.{fresh, setSize, setEnabled}
 use Rattle.controller.specs.BusAction.{repeated, plain, fallOnRead, fallOnSwapWrite, fallOnWrite, fall, decide, resumed, nextAction, busAction}
 use Rattle.transfer.specs.Timing.{readAgain, restored, resumes, swapReads, swapWrites}
 use Rattle.controller.specs.TickDma.{advance, tickStore, tickRecall, swapRead, swapWrite, tickSwap, differs, withError, tickVerify, tickByType, tickRefresh, tickTail, tickRunning, tickOf, tickDma}
@@ -47,7 +47,7 @@ use Rattle.controller.specs.Cycle.{counted, mostGranted, cycleBy, runReuCycle}
 use Rattle.transfer.proofs.Pick.{by-test}
 use Rattle.controller.proofs.WellFormed.{fst, snd}
 use Rattle.image.specs.Valid.{Bytes}
-use Rattle.image.proofs.Sound.{SoundRegs, fresh-regs, and-byte, set-each, store, plain-fits, cleared-fits, mask-fits, control-fits, raise, count-pair, count-all, SoundTransfer, SoundDma, with-step, Sound, with-regs, with-shadows, with-delay, with-dma, with-granted}
+use Rattle.image.proofs.Sound.{SoundRegs, fresh-regs, and-byte, set-each, store, plain-fits, cleared-fits, mask-fits, control-fits, raise, count-pair, count-all, SoundTransfer, SoundDma, with-step, Sound, with-regs, with-shadows, with-delay, with-dma, with-granted, with-size}
 
 -- ---- read and write
 
@@ -129,11 +129,15 @@ pub sound-trigger : (u : Reu) → Sound u → Sound (triggerFf00 u)
 unfolding triggerFf00
 sound-trigger u s = by-test Sound (u .«waiting_ff00» && bit (reg u 1) 7) (startDma u) u (λ _. sound-start u s) (λ _. s)
 
--- ---- new, reset, the enable switch
+-- ---- new, reset, the size, the enable switch
 
-pub sound-fresh : (e a : Bool) → Sound (fresh e a)
-sound-fresh e a =
-    record { regs = fresh-regs e a; c64 = omega arith; exp = omega arith; len = omega arith; delay = omega arith; dma = tt; granted = omega arith }
+pub sound-fresh : (e a : Bool) (size : ℕ) → isSize size ≡ true → Sound (fresh e a size)
+sound-fresh e a size h =
+    record { regs = fresh-regs e a size; c64 = omega arith; exp = omega arith; len = omega arith; delay = omega arith; dma = tt; granted = omega arith; size = h }
+
+pub sound-size : (u : Reu) (size : ℕ) → Sound u → isSize size ≡ true → Sound (setSize u size)
+unfolding setSize
+sound-size u size s h = with-size s size h
 
 attach : (a : Bool) (d : Dma) → SoundDma a d → SoundDma true d
 attach a Idle h = tt
@@ -212,10 +216,10 @@ sound-publish : (u : Reu) (d : DmaState) → Sound u → Sound (publishLiveCount
 unfolding publishLiveCounters
 sound-publish u d s = with-regs s (count-all (d .«c64_addr» .0) (d .«reu_addr» .0) (d .remaining) (s .regs))
 
-autoloaded-regs : (b : Bool) (c e n : ℕ) {l : List ℕ} → SoundRegs l → SoundRegs (autoloaded l b c e n)
-autoloaded-regs b c e n r = by-test SoundRegs b _ _ (λ _. count-all c e n r) (λ _. r)
+autoloaded-regs : {k : Bool} (b : Bool) (c e n : ℕ) {l : List ℕ} → SoundRegs k l → SoundRegs k (autoloaded l b c e n)
+autoloaded-regs {k} b c e n r = by-test (SoundRegs k) b _ _ (λ _. count-all c e n r) (λ _. r)
 
-finished-command : (l : List ℕ) → SoundRegs l → SoundRegs (finishedCommand l)
+finished-command : {k : Bool} (l : List ℕ) → SoundRegs k l → SoundRegs k (finishedCommand l)
 finished-command l r =
     store 1 r
     (plain-fits 1 refl (or-lt 8 (bitAnd (getD l 1 0) 127) 16 (and-byte (getD l 1 0) 127 (r .fits 1 .byte)) (omega arith)))
@@ -338,14 +342,14 @@ module _ (P Q : List ℕ → Type 0) (p : Memory P) (q : Memory Q) where
   put-bus (Bus a v) m h b = p .stored m _ v h b
   put-bus (Storage a v) m h b = b
 
-  put-storage : (put : Put) (s : List ℕ) → FitsPut put → Q s → Q (putStorage put s)
-  put-storage Nothing s h b = b
-  put-storage (Bus a v) s h b = b
-  put-storage (Storage a v) s h b = q .stored s _ v h b
+  put-storage : (size : ℕ) (put : Put) (s : List ℕ) → FitsPut put → Q s → Q (putStorage size put s)
+  put-storage size Nothing s h b = b
+  put-storage size (Bus a v) s h b = b
+  put-storage size (Storage a v) s h b = q .stored s _ v h b
 
-  seen-fits : (x : Dma) (m s : List ℕ) → P m → Q s → FitsSeen (seenBy x m s)
-  seen-fits Idle m s bm bs = omega arith
-  seen-fits (Running d) m s bm bs = (p .bytes m bm .below _, q .bytes s bs .below _)
+  seen-fits : (size : ℕ) (x : Dma) (m s : List ℕ) → P m → Q s → FitsSeen (seenBy size x m s)
+  seen-fits size Idle m s bm bs = omega arith
+  seen-fits size (Running d) m s bm bs = (p .bytes m bm .below _, q .bytes s bs .below _)
 
   module _ (u : Reu) (m s : List ℕ) (h : SoundState P Q u m s) where
     pub sound-enabled : (e : Bool) → SoundState P Q (setEnabled u s e .0) m (setEnabled u s e .1)
@@ -362,15 +366,16 @@ module _ (P Q : List ℕ → Type 0) (p : Memory P) (q : Memory Q) where
     unfolding busAction
     sound-grant high phi1 cycle =
         let g = sound-next u high phi1 cycle (h .sound) in
-        record { sound = g .sound; bus = h .bus; storage = put-storage (nextAction u high phi1 cycle .put) s (g .put) (h .storage) }
+        record { sound = g .sound; bus = h .bus; storage = put-storage (u .size) (nextAction u high phi1 cycle .put) s (g .put) (h .storage) }
 
     pub sound-tick-dma : (cycle : ℕ) (low : Bool)
         → SoundState P Q (tickDma u m s cycle low .0 .reu) (tickDma u m s cycle low .1) (tickDma u m s cycle low .2)
     unfolding tickDma
     sound-tick-dma cycle low =
-        let t = tickOf (u .dma) u (seenBy (u .dma) m s) cycle low in
-        let g = sound-of-dma (u .dma) u (seenBy (u .dma) m s) cycle low (h .sound) (h .sound .dma) (seen-fits (u .dma) m s (h .bus) (h .storage)) in
-        record { sound = g .sound; bus = put-bus (t .put) m (g .put) (h .bus); storage = put-storage (t .put) s (g .put) (h .storage) }
+        let b = seenBy (u .size) (u .dma) m s in
+        let t = tickOf (u .dma) u b cycle low in
+        let g = sound-of-dma (u .dma) u b cycle low (h .sound) (h .sound .dma) (seen-fits (u .size) (u .dma) m s (h .bus) (h .storage)) in
+        record { sound = g .sound; bus = put-bus (t .put) m (g .put) (h .bus); storage = put-storage (u .size) (t .put) s (g .put) (h .storage) }
 
   cycle-by : (a : ReuBusAction) (u : Reu) (m s : List ℕ) (cycle : ℕ) (low : Bool) → SoundState P Q u m s
       → SoundState P Q (cycleBy a u m s cycle low .0 .reu) (cycleBy a u m s cycle low .1) (cycleBy a u m s cycle low .2)

@@ -25,6 +25,7 @@ use Rattle.image.proofs.Flags.{flags-back}
 use Rattle.image.specs.Inner.{gets}
 use Rattle.image.proofs.Gets.{gets-slice, gets-rest}
 use Rattle.image.proofs.Remaining.{two-bytes-back}
+use Rattle.image.proofs.Size.{more-back}
 use Rattle.image.proofs.Opening.{opened-is, opened-long, opened-ok}
 
 type-number-back : (n : ℕ) → n < 4 → typeNumber (typeOf n) ≡ n
@@ -81,7 +82,7 @@ module _ (ns : List ℕ) (long : length ns ≡ count) (fit : Below (values field
   pub numbers-of : numbersOf (controllerOf ns) ≡ ns
   numbers-of =
       ap (λ (l : List ℕ). take registerCount ns ++ l)
-      ((λ i. at ns shadowC64 ∷ at ns shadowExp ∷ at ns shadowLength ∷ flags-back 7 (at ns flags) (under flags (omega arith)) i ∷ flags-back 1 (at ns moreFlags) (under moreFlags (omega arith)) i
+      ((λ i. at ns shadowC64 ∷ at ns shadowExp ∷ at ns shadowLength ∷ flags-back 7 (at ns flags) (under flags (omega arith)) i ∷ more-back (at ns moreFlags) (under moreFlags (omega arith)) i
       ∷ at ns delay ∷ tail .0 i ∷ (tail .1 i ++ (at ns grantedCycles ∷ [])))
       ∙ gets-rest ns registerCount (count - registerCount) long)
       ∙ take-append-drop registerCount ns

@@ -1,7 +1,7 @@
 -- A sound controller is one whose fields fit their types and that passes the test.
 use Prim.Native.Nat.{ℕ}
-use mathlib.Core.Bool.{Bool, true, not, _&&_, _||_}
-use mathlib.Core.Path.{_≡_, refl}
+use mathlib.Core.Bool.{Bool, true, false, not, Bool·beq, _&&_, _||_}
+use mathlib.Core.Path.{_≡_, refl, sym, ap, _∙_}
 use mathlib.Core.List.{List}
 use lib.Dec.{eqb, ltb, leb}
 use native.Mathlib.Omega.{arith}
@@ -14,14 +14,18 @@ use Rattle.transfer.specs.declared.dma.Dma.the-variants.{Idle, Running}
 use Rattle.transfer.specs.Dma.{isType, isWritePhase}
 use Rattle.controller.specs.Refusals.{wellFormed}
 use Rattle.transfer.specs.Dma.{wellTransfer, wellDma}
-use Rattle.controller.proofs.WellFormed.{fst, snd, well-shadow, well-delay}
+use Rattle.transfer.specs.Constants.{version}
+use Rattle.transfer.specs.Bytes.{bit}
+use Rattle.transfer.specs.Memory.{isSize, chipMark}
+use Rattle.controller.specs.Reu.{reg}
+use Rattle.controller.proofs.WellFormed.{fst, snd, well-shadow, well-delay, well-size}
 use Rattle.image.specs.Layout.{packImage, reuAt}
 use Rattle.image.specs.Open.{openImage}
 use Rattle.image.proofs.Opening.{opened-long, opened-ok}
 use Rattle.image.specs.Valid.{Bytes, Typed, DmaTyped}
 use Rattle.image.proofs.Packed.{pack-bytes}
 use Rattle.image.proofs.Unpacked.{pack-open, opened-typed, opened-well}
-use Rattle.image.proofs.Sound.{SoundTransfer, SoundDma, Sound}
+use Rattle.image.proofs.Sound.{FitsRegister, SoundTransfer, SoundDma, Sound}
 
 transfer-well : (a : Bool) (d : DmaState) → SoundTransfer a d → a && wellTransfer d ≡ true
 transfer-well a d h =
@@ -34,12 +38,26 @@ dma-well : (a : Bool) (x : Dma) → SoundDma a x → wellDma a x ≡ true
 dma-well a Idle h = refl
 dma-well a (Running d) h = transfer-well a d h
 
+same-beq : (a b : Bool) → a ≡ b → Bool·beq a b ≡ true
+same-beq a b e = ap (Bool·beq a) (sym e) ∙ self a
+  where
+    self : (c : Bool) → Bool·beq c c ≡ true
+    self true = refl
+    self false = refl
+
+beq-same : (a b : Bool) → Bool·beq a b ≡ true → a ≡ b
+beq-same true true e = refl
+beq-same true false e = sym e
+beq-same false true e = e
+beq-same false false e = refl
+
 pub sound-well : (u : Reu) → Sound u → wellFormed u ≡ true
 unfolding wellFormed
 sound-well u s =
     let delay : leb (u .«swap_read_delay») 2 ≡ true = le-leb (u .«swap_read_delay») 2 (omega (arith, s .delay)) in
     let shadow : ltb (u .«shadow_reu_addr») 16777216 ≡ true = lt-ltb (u .«shadow_reu_addr») 16777216 (s .exp) in
-    λ i. delay i && (shadow i && dma-well (u .attached) (u .dma) (s .dma) i)
+    let mark : Bool·beq (bit (reg u 0) version) (chipMark (u .size)) ≡ true = same-beq _ _ (s .regs .fits 0 .mark refl) in
+    λ i. delay i && (shadow i && (dma-well (u .attached) (u .dma) (s .dma) i && (s .size i && mark i)))
 
 dma-typed : (a : Bool) (x : Dma) → SoundDma a x → DmaTyped x
 dma-typed a Idle h = tt
@@ -94,19 +112,28 @@ dma-sound : (a : Bool) (x : Dma) → DmaTyped x → wellDma a x ≡ true → Sou
 dma-sound a Idle h e = tt
 dma-sound a (Running d) h e = transfer-sound a d h e
 
+-- the registers, with the mark of the size
+regs-fit : (u : Reu) → Typed u → wellFormed u ≡ true → (i : ℕ) → FitsRegister (chipMark (u .size)) i (reg u i)
+regs-fit u t e i =
+    record {
+      byte = t .regs-bytes .below i;
+      mark = λ z. ap (λ (j : ℕ). bit (reg u j) version) z ∙ beq-same (bit (reg u 0) version) (chipMark (u .size)) (snd (isSize (u .size)) _ (well-size u e));
+    }
+
 pub sound-of : (u : Reu) → Typed u → wellFormed u ≡ true → Sound u
 unfolding wellFormed
 sound-of u t e =
     record {
-      regs = record { len = t .regs-long; fits = λ i. record { byte = t .regs-bytes .below i } };
+      regs = record { len = t .regs-long; fits = regs-fit u t e };
       c64 = t .c64-fits;
       exp = well-shadow u e;
       len = t .len-fits;
       delay = omega (arith, well-delay u e);
       dma =
           dma-sound (u .attached) (u .dma) (t .dma-fits)
-          (snd (ltb (u .«shadow_reu_addr») 16777216) _ (snd (leb (u .«swap_read_delay») 2) _ e));
+          (fst (wellDma (u .attached) (u .dma)) _ (snd (ltb (u .«shadow_reu_addr») 16777216) _ (snd (leb (u .«swap_read_delay») 2) _ e)));
       granted = t .granted-fits;
+      size = fst (isSize (u .size)) _ (well-size u e);
     }
 
 pub sound-bytes : (u : Reu) → Sound u → Bytes (packImage u)

@@ -2,10 +2,10 @@
 use mathlib.Core.Bool.{Bool, true, false, not}
 use mathlib.Core.Path.{_≡_, refl, sym, ap, _∙_}
 use Prim.Native.Nat.{ℕ, zero, suc, _+_, _*_, _/_, _%_, _^_, _≤_, _<_}
-use native.Mathlib.Nat.{mod-lt, one-mul, zero-mul}
+use native.Mathlib.Nat.{mod-lt, mod-mod, one-mul, zero-mul}
 use native.Mathlib.Omega.{arith}
 use lib.Pow.{pow-pos, high-ones}
-use lib.Bits.{bitAnd, and-high}
+use lib.Bits.{bitAnd, bitOr, and-high, and-shr, and-mod, and-mask, and-zero-r, or-shr, or-mod, or-zero-l, or-zero-r, or-self}
 use lib.Dec.{eqb}
 use borrow.Author.Tests.{eq-eqb, ne-eqb, eqb-true, eqb-false}
 use Rattle.transfer.specs.Bytes.{bit, bitOf}
@@ -50,3 +50,32 @@ zero-bit v n e = bit-div v n ∙ ne-eqb (v / 2 ^ n % 2) 1 (λ o. omega arith)
 pub bit-most : (b : Bool) → bitOf b ≤ 1
 bit-most true = omega arith
 bit-most false = omega arith
+
+-- ---- a bit of two numbers joined, where the second has it or not
+
+and-digit : (v m n d : ℕ) → m / 2 ^ n % 2 ≡ d → bitAnd v m / 2 ^ n % 2 ≡ bitAnd (v / 2 ^ n % 2) d
+and-digit v m n d e = ap (λ (q : ℕ). q % 2) (and-shr v m n) ∙ and-mod (v / 2 ^ n) (m / 2 ^ n) 1 ∙ ap (bitAnd (v / 2 ^ n % 2)) e
+
+or-digit : (v m n d : ℕ) → m / 2 ^ n % 2 ≡ d → bitOr v m / 2 ^ n % 2 ≡ bitOr (v / 2 ^ n % 2) d
+or-digit v m n d e = ap (λ (q : ℕ). q % 2) (or-shr v m n) ∙ or-mod (v / 2 ^ n) (m / 2 ^ n) 1 ∙ ap (bitOr (v / 2 ^ n % 2)) e
+
+by-digit : (x n d : ℕ) → x / 2 ^ n % 2 ≡ d → bit x n ≡ eqb d 1
+by-digit x n d e = bit-div x n ∙ ap (λ (q : ℕ). eqb q 1) e
+
+pub and-one : (v m n : ℕ) → m / 2 ^ n % 2 ≡ 1 → bit (bitAnd v m) n ≡ bit v n
+and-one v m n e =
+    by-digit (bitAnd v m) n (v / 2 ^ n % 2) (and-digit v m n 1 e ∙ and-mask (v / 2 ^ n % 2) 1 ∙ mod-mod (v / 2 ^ n) 2) ∙ sym (bit-div v n)
+
+pub and-none : (v m n : ℕ) → m / 2 ^ n % 2 ≡ 0 → bit (bitAnd v m) n ≡ false
+and-none v m n e = by-digit (bitAnd v m) n 0 (and-digit v m n 0 e ∙ and-zero-r (v / 2 ^ n % 2))
+
+pub or-none : (v m n : ℕ) → m / 2 ^ n % 2 ≡ 0 → bit (bitOr v m) n ≡ bit v n
+or-none v m n e = by-digit (bitOr v m) n (v / 2 ^ n % 2) (or-digit v m n 0 e ∙ or-zero-r (v / 2 ^ n % 2)) ∙ sym (bit-div v n)
+
+pub or-one : (v m n : ℕ) → m / 2 ^ n % 2 ≡ 1 → bit (bitOr v m) n ≡ true
+or-one v m n e = by-digit (bitOr v m) n 1 (or-digit v m n 1 e ∙ go (v / 2 ^ n % 2) (mod-lt (v / 2 ^ n) (omega arith)))
+  where
+    go : (q : ℕ) → q < 2 → bitOr q 1 ≡ 1
+    go zero h = or-zero-l 1
+    go (suc zero) h = or-self 1
+    go (suc (suc q)) h = absurd (omega arith)

@@ -57,11 +57,12 @@ impl ExpansionAddress {
         ensures { λ r. ⌜ r ≡ physicalOffset size self ⌝ }
     {
         let connected = lines(size as u64);
-        if connected < 32 {
-            Offset(self.0 & ((1 << connected) - 1))
+        let kept = if connected < 32 {
+            (1 << connected) - 1
         } else {
-            Offset(self.0)
-        }
+            0xFFFF_FFFF
+        };
+        Offset(self.0 & kept)
     }
 
     // The next address, unless it is fixed.

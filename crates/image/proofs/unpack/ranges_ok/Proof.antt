@@ -16,7 +16,7 @@ returns c =
     let at-start = at-shared-slice-known .before in
     let s = at-start .args .image .now in
     all-from true
-    (ltb (at s (placeOf moreFlags)) 4 ∷ ltb (at s (placeOf delay)) 3 ∷ ltb (at s (placeOf transfer)) 2 ∷ ltb (at s (placeOf kind)) 4 ∷ ltb (at s (placeOf phase)) 2 ∷ ltb (at s (placeOf options)) 64 ∷ [])
+    (ltb (at s (placeOf moreFlags)) 12 ∷ ltb (at s (placeOf delay)) 3 ∷ ltb (at s (placeOf transfer)) 2 ∷ ltb (at s (placeOf kind)) 4 ∷ ltb (at s (placeOf phase)) 2 ∷ ltb (at s (placeOf options)) 64 ∷ [])
     ∙ sym (ranges-are s (at-start .pre) (λ j. omega (arith, at-shared-slice-known .shared-slice-known .given j)))
 
 pub ranges-ok-spec : {M : Type 1} → statement M
