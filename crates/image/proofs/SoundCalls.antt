@@ -26,6 +26,7 @@ use Rattle.transfer.specs.declared.memory.Put.{Put}
 use Rattle.transfer.specs.declared.memory.Put.the-variants.{Nothing, Bus, Storage}
 use Rattle.transfer.specs.declared.timing.ReuBusAction.{ReuBusAction}
 use Rattle.transfer.specs.declared.timing.ReuBusAction.the-variants.{Cpu, Hold, Transfer}
+use Rattle.transfer.specs.Constants.{newSize}
 use Rattle.transfer.specs.Bytes.{bit, word}
 use Rattle.controller.specs.Reu.{reg, setReg, withRegs, withArmed, withDma, withHistory, withRepeat, withRelease}
 use Rattle.transfer.specs.Dma.{withLatch}
@@ -38,13 +39,14 @@ use Rattle.regs.specs.StartDma.{requested}
 use Rattle.controller.specs.StartDma.{startDma, triggerFf00}
 use Rattle.regs.specs.FinishDma.{irqDue, finishedCommand, autoloaded, finished}
 use Rattle.controller.specs.FinishDma.{updateIrq, publishLiveCounters, finishDma}
-use Rattle.controller.specs.Enable.{fresh, setSize, setEnabled}
+use Rattle.controller.specs.Enable.{fresh, newReu, setSize, setEnabled}
 use Rattle.controller.specs.BusAction.{repeated, plain, fallOnRead, fallOnSwapWrite, fallOnWrite, fall, decide, resumed, nextAction, busAction}
 use Rattle.transfer.specs.Timing.{readAgain, restored, resumes, swapReads, swapWrites}
 use Rattle.controller.specs.TickDma.{advance, tickStore, tickRecall, swapRead, swapWrite, tickSwap, differs, withError, tickVerify, tickByType, tickRefresh, tickTail, tickRunning, tickOf, tickDma}
 use Rattle.transfer.specs.Dma.{seenBy}
 use Rattle.controller.specs.Cycle.{counted, mostGranted, cycleBy, runReuCycle}
 use Rattle.transfer.proofs.Pick.{by-test}
+use Rattle.transfer.proofs.Sizes.{size-512}
 use Rattle.controller.proofs.WellFormed.{fst, snd}
 use Rattle.image.specs.Valid.{Bytes}
 use Rattle.image.proofs.Sound.{SoundRegs, fresh-regs, and-byte, set-each, store, plain-fits, cleared-fits, mask-fits, control-fits, raise, count-pair, count-all, SoundTransfer, SoundDma, with-step, Sound, with-regs, with-shadows, with-delay, with-dma, with-granted, with-size}
@@ -134,6 +136,9 @@ sound-trigger u s = by-test Sound (u .«waiting_ff00» && bit (reg u 1) 7) (star
 pub sound-fresh : (e a : Bool) (size : ℕ) → isSize size ≡ true → Sound (fresh e a size)
 sound-fresh e a size h =
     record { regs = fresh-regs e a size; c64 = omega arith; exp = omega arith; len = omega arith; delay = omega arith; dma = tt; granted = omega arith; size = h }
+
+pub sound-new : Sound newReu
+sound-new = sound-fresh false false newSize size-512
 
 pub sound-size : (u : Reu) (size : ℕ) → Sound u → isSize size ≡ true → Sound (setSize u size)
 unfolding setSize

@@ -4,21 +4,22 @@ use mathlib.Core.Bool.{Bool, false}
 use mathlib.Core.Path.{_≡_, refl}
 use mathlib.Core.List.{List}
 use lib.Dec.{eqb}
+use borrow.Author.Tests.{eqb-true}
 use Rattle.controller.specs.declared.reu.Answer.{Answer}
 use Rattle.controller.specs.declared.reu.Reu.{Reu}
-use Rattle.controller.specs.Enable.{resetReu, setEnabled}
-use Rattle.controller.specs.Refusals.{checked}
+use Rattle.controller.specs.Enable.{resetReu, setSize, setEnabled}
+use Rattle.controller.specs.Refusals.{sizeRefusal, checked}
 use Rattle.controller.specs.Registers.{readRegister, writeRegister}
 use Rattle.controller.specs.StartDma.{triggerFf00}
 use Rattle.controller.specs.BusAction.{busAction, cpuReadyAfterDma}
 use Rattle.controller.specs.TickDma.{Ticked, quietStep, tickDma}
 use Rattle.controller.specs.Cycle.{runReuCycle}
-use Rattle.controller.specs.Calls.{numbered, answered, refused, resetCall, setEnabledCall, storagePresentCall, capacityBytesCall, triggerCall, readCall, writeCall, dmaActiveCall, busActionCall, cpuReadyCall, debugRegisterCall, c64AccessCall, tickCall, cycleCall}
-use Rattle.controller.proofs.Checked.{tick-accepted, cycle-accepted}
+use Rattle.controller.specs.Calls.{numbered, answered, refused, resetCall, setSizeCall, setEnabledCall, storagePresentCall, capacityBytesCall, triggerCall, readCall, writeCall, dmaActiveCall, busActionCall, cpuReadyCall, debugRegisterCall, c64AccessCall, tickCall, cycleCall}
+use Rattle.controller.proofs.Checked.{size-accepted, tick-accepted, cycle-accepted}
 use Rattle.transfer.proofs.Pick.{by-test}
 use Rattle.image.specs.Valid.{Bytes}
 use Rattle.image.proofs.Sound.{Sound}
-use Rattle.image.proofs.SoundCalls.{SoundState, bytes-memory, sound-fresh, sound-trigger, sound-read, sound-write, sound-next, sound-switch, sound-tick-dma, sound-cycle}
+use Rattle.image.proofs.SoundCalls.{SoundState, bytes-memory, sound-fresh, sound-size, sound-trigger, sound-read, sound-write, sound-next, sound-switch, sound-tick-dma, sound-cycle}
 use Rattle.image.proofs.Valid.{sound-well}
 use Rattle.reu.specs.Inner.{Whole}
 
@@ -74,7 +75,17 @@ module _ (u : Reu) (s : Sound u) where
 
   pub reset-whole : Whole (resetCall u)
   unfolding resetCall
-  reset-whole = alone _ _ (resetReu u) (sound-fresh (u .enabled) (u .attached))
+  reset-whole = alone _ _ (resetReu u) (sound-fresh (u .enabled) (u .attached) (u .size) (s .size))
+
+  -- a size that is not refused is one
+  pub set-size-whole : (size : ℕ) → Whole (setSizeCall u size)
+  unfolding setSizeCall checked
+  set-size-whole size =
+      by-test Whole (eqb n 0) (answered 0 (setSize u size)) (refused u n)
+      (λ z. done 0 (setSize u size) (sound-size u size s (size-accepted u n size refl (eqb-true n 0 z)))) (λ _. not-done n)
+    where
+      n : ℕ
+      n = sizeRefusal u size
 
   pub trigger-whole : Whole (triggerCall u)
   unfolding triggerCall

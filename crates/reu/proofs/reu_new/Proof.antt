@@ -11,14 +11,15 @@ use Rattle.controller.specs.Refusals.{wellFormed}
 use Rattle.image.specs.Layout.{imageSize, packImage}
 use Rattle.image.specs.Open.{storeImage}
 use Rattle.image.proofs.Opening.{store-good, store-other}
+use Rattle.image.proofs.SoundCalls.{sound-new}
+use Rattle.image.proofs.Valid.{sound-well}
 use Rattle.reu.specs.Exports.{refusal, reuNew}
 use borrow.Author.Needs.{needs}
 use Rattle.reu.proofs.reu_new.Statement.{statement}
 use Rattle.reu.proofs.reu_new.Tie as tie
 
 new-well : wellFormed newReu ≡ true
-unfolding wellFormed
-new-well = refl
+new-well = sound-well newReu sound-new
 
 -- storing a new controller is making a new image: the refusal as a call answers it
 abbrev coded : (ℕ × List ℕ) → (ℕ × List ℕ)
