@@ -1,4 +1,4 @@
--- What each of the fifteen exported calls does on the image of a sound controller: it is tested for its refusal number, and where that is
+-- What each of the sixteen exported calls does on the image of a sound controller: it is tested for its refusal number, and where that is
 -- 0, which an accepted call's is, it does what the controller's definition says.
 use Prim.Native.Nat.{ℕ, _<_}
 use native.Mathlib.Nat.{zero-add}
@@ -11,21 +11,21 @@ use lib.Dec.{eqb, ltb}
 use borrow.Author.Tests.{eq-eqb, eqb-true, eqb-false, lt-ltb, ltb-true}
 use Rattle.controller.specs.declared.reu.Answer.{Answer}
 use Rattle.controller.specs.declared.reu.Reu.{Reu}
-use Rattle.controller.specs.Enable.{newReu}
-use Rattle.transfer.specs.Constants.{busSize, storageSize}
-use Rattle.controller.specs.Refusals.{wellFormed, firstRefusal, refusalOf, checked}
+use Rattle.controller.specs.Enable.{newReu, setSize as core-setSize}
+use Rattle.transfer.specs.Constants.{busSize}
+use Rattle.controller.specs.Refusals.{wellFormed, firstRefusal, refusalOf, sizeRefusal, checked}
 use Rattle.controller.specs.TickDma.{Ticked, quietStep}
 use Rattle.controller.proofs.Checked.{tick-accepted, cycle-accepted}
-use Rattle.controller.specs.Calls.{stepNumber, answered, refused, call, callStorage, callBoth, resetCall, setEnabledCall, storagePresentCall, capacityBytesCall, triggerCall, readCall, writeCall, dmaActiveCall, busActionCall, cpuReadyCall, debugRegisterCall, c64AccessCall, tickCall, cycleCall}
+use Rattle.controller.specs.Calls.{stepNumber, answered, refused, call, callStorage, callBoth, resetCall, setSizeCall, setEnabledCall, storagePresentCall, capacityBytesCall, triggerCall, readCall, writeCall, dmaActiveCall, busActionCall, cpuReadyCall, debugRegisterCall, c64AccessCall, tickCall, cycleCall}
 use Rattle.image.specs.declared.Opened.{Opened}
 use Rattle.image.specs.Layout.{imageSize, packImage}
 use Rattle.image.specs.Open.{openImage}
 use Rattle.image.proofs.Packed.{open-pack, pack-long}
 use Rattle.reu.specs.Exports.{flag, refusalUnit, refusal, code, imageAfter, look, changed, change, changedStorage, changeStorage, changedBoth, changeBoth, reuNew}
-use Rattle.claims.specs.Calls.{Other, new, reset, setEnabled, storagePresent, capacityBytes, triggerFf00, dmaActive, busAction, cpuReady, debugRegister, c64Access, tickDma, Kind, read, write, cycle, other, Done, looked, onImage, onStorage, onBoth, doesOther, does, accepts}
+use Rattle.claims.specs.Calls.{Other, new, reset, setSize, setEnabled, storagePresent, capacityBytes, triggerFf00, dmaActive, busAction, cpuReady, debugRegister, c64Access, tickDma, Kind, read, write, cycle, other, Done, looked, onImage, onStorage, onBoth, doesOther, does, accepts, NumbersFit}
 use Rattle.image.proofs.Sound.{Sound}
 use Rattle.image.proofs.Valid.{sound-well, sound-typed}
-use Rattle.claims.proofs.States.{St, held, on, Act, looks, changes, stores, moves, ticks, otherAct, act, valueBy, leftBy, numberBy, valueOf, stepOf, numberOf, Ready}
+use Rattle.claims.proofs.States.{St, held, on, Act, looks, sizes, changes, stores, moves, ticks, otherAct, act, valueBy, leftBy, numberBy, valueOf, stepOf, numberOf, Steady, Ready, ready-left}
 
 -- ---- the number by the lengths
 
@@ -35,16 +35,16 @@ number controller bus storage = firstRefusal ((controller, 2) ∷ (bus, 3) ∷ (
 -- a number that is 0 with a bus is 0 without
 pub without-bus : (u : Reu) (b s : ℕ) → refusalOf u b s ≡ 0 → refusalOf u busSize s ≡ 0
 unfolding refusalOf
-without-bus u b s = go (wellFormed u) (eqb b busSize) (eqb s storageSize)
+without-bus u b s = go (wellFormed u) (eqb b busSize) (eqb s (u .size))
   where
     go : (w p q : Bool) → number w p q ≡ 0 → number w true q ≡ 0
     go true true q e = e
     go true false q e = absurd (omega arith)
     go false p q e = absurd (omega arith)
 
-pub zero-number : (u : Reu) → Sound u → (b s : ℕ) → b ≡ busSize → s ≡ storageSize → refusalOf u b s ≡ 0
+pub zero-number : (u : Reu) → Sound u → (b s : ℕ) → b ≡ busSize → s ≡ u .size → refusalOf u b s ≡ 0
 unfolding refusalOf
-zero-number u sound b s hb hs = λ i. number (sound-well u sound i) (eq-eqb b busSize hb i) (eq-eqb s storageSize hs i)
+zero-number u sound b s hb hs = λ i. number (sound-well u sound i) (eq-eqb b busSize hb i) (eq-eqb s (u .size) hs i)
 
 -- ---- a call, by the number that it is tested for
 
@@ -66,8 +66,8 @@ module _ (x : St) (sound : Sound (x .u)) where
   opened = open-pack (x .u) (sound-typed (x .u) sound) (sound-well (x .u) sound)
 
   -- a call that is lent no memory is not refused
-  pub alone : refusalOf (x .u) busSize storageSize ≡ 0
-  alone = zero-number (x .u) sound busSize storageSize refl refl
+  pub alone : refusalOf (x .u) busSize (x .u .size) ≡ 0
+  alone = zero-number (x .u) sound busSize (x .u .size) refl refl
 
   -- a family g of calls tells the two arms of a test as `through` does
   alike : {A : Type 0} (g : A → Done) (n : ℕ) (r : ℕ → A) (d : A) (y : Whole) → ((k : ℕ) → g (r k) ≡ through (refused (x .u) k, x .m, x .s))
@@ -92,7 +92,13 @@ module _ (x : St) (sound : Sound (x .u)) where
   changes-is f v w e =
       ap (λ (o : Opened). onImage (held x) (checked (o .refusal) (λ n. (refusal n, packImage (x .u))) (changed (f (o .reu)) (packImage (x .u))))) opened
       ∙ ap (λ (a : Answer). onImage (held x) (changed a (packImage (x .u)))) e
-      ∙ alike (λ (a : Answer). onImage (held x) (changed a (packImage (x .u)))) (refusalOf (x .u) busSize storageSize) (refused (x .u)) (answered v w) _ (λ k. refl) refl
+      ∙ alike (λ (a : Answer). onImage (held x) (changed a (packImage (x .u)))) (refusalOf (x .u) busSize (x .u .size)) (refused (x .u)) (answered v w) _ (λ k. refl) refl
+
+  sizes-is : (n : ℕ) → onImage (held x) (change (λ w. setSizeCall w n) (packImage (x .u))) ≡ testedBy (sizes n)
+  unfolding change checked setSizeCall
+  sizes-is n =
+      ap (λ (o : Opened). onImage (held x) (checked (o .refusal) (λ k. (refusal k, packImage (x .u))) (changed (setSizeCall (o .reu) n) (packImage (x .u))))) opened
+      ∙ alike (λ (a : Answer). onImage (held x) (changed a (packImage (x .u)))) (sizeRefusal (x .u) n) (refused (x .u)) (answered 0 (core-setSize (x .u) n)) _ (λ k. refl) refl
 
   stores-is : (f : Reu → List ℕ → (Answer × List ℕ)) (v : ℕ) (w : Reu) (t : List ℕ) → f (x .u) (x .s) ≡ callStorage (x .u) (x .s) (answered v w, t)
       → onStorage (held x) (changeStorage f (packImage (x .u)) (x .s)) ≡ testedBy (stores v w t)
@@ -132,6 +138,7 @@ module _ (x : St) (sound : Sound (x .u)) where
   unfolding resetCall setEnabledCall storagePresentCall capacityBytesCall triggerCall dmaActiveCall busActionCall cpuReadyCall debugRegisterCall c64AccessCall tickCall
   other-is new = new-is
   other-is (reset h) = changes-is resetCall _ _ refl
+  other-is (setSize n) = sizes-is n
   other-is (setEnabled e) = stores-is (λ w t. setEnabledCall w t (flag e)) _ _ _ refl
   other-is storagePresent = looks-is storagePresentCall _ refl
   other-is capacityBytes = looks-is capacityBytesCall _ refl
@@ -178,12 +185,39 @@ module _ (x : St) (sound : Sound (x .u)) where
   pub is-accepted : (k : Kind) → numberOf k x ≡ 0 → valueOf k x < refusalUnit → accepts (on x k) ≡ true
   is-accepted k z h = ap (λ (n : ℕ). ltb n refusalUnit) (answer-is k z) ∙ lt-ltb (valueOf k x) refusalUnit h
 
--- where the lengths are right every number is 0
-pub ready-number : (x : St) → Ready x → (k : Kind) → numberOf k x ≡ 0
-ready-number x r k = go (act k x)
+-- where the lengths are right every number is 0, but of setting a size
+pub ready-number : (x : St) → Ready x → (k : Kind) → Steady k → numberOf k x ≡ 0
+ready-number x r k s = go k s
   where
-    go : (a : Act) → numberBy x a ≡ 0
-    go (looks v) = zero-number (x .u) (r .sound) _ _ refl refl
-    go (changes v w) = zero-number (x .u) (r .sound) _ _ refl refl
-    go (stores v w t) = zero-number (x .u) (r .sound) _ _ refl (r .storage .size)
-    go (moves v w b t) = zero-number (x .u) (r .sound) _ _ (r .bus .size) (r .storage .size)
+    none : refusalOf (x .u) busSize (x .u .size) ≡ 0
+    none = zero-number (x .u) (r .sound) _ _ refl refl
+
+    with-storage : refusalOf (x .u) busSize (length (x .s)) ≡ 0
+    with-storage = zero-number (x .u) (r .sound) _ _ refl (r .storage .size)
+
+    with-both : refusalOf (x .u) (length (x .m)) (length (x .s)) ≡ 0
+    with-both = zero-number (x .u) (r .sound) _ _ (r .bus .size) (r .storage .size)
+
+    by-other : (o : Other) → Steady (other o) → numberOf (other o) x ≡ 0
+    by-other new t = none
+    by-other (reset h) t = none
+    by-other (setSize n) t = absurd t
+    by-other (setEnabled e) t = with-storage
+    by-other storagePresent t = none
+    by-other capacityBytes t = none
+    by-other triggerFf00 t = none
+    by-other dmaActive t = none
+    by-other (busAction h p n) t = with-storage
+    by-other (cpuReady h) t = none
+    by-other (debugRegister i) t = none
+    by-other c64Access t = none
+    by-other (tickDma n l) t = with-both
+
+    go : (k : Kind) → Steady k → numberOf k x ≡ 0
+    go (read a) t = none
+    go (write a v) t = none
+    go (cycle h n l p) t = with-both
+    go (other o) t = by-other o t
+
+pub ready-step : (x : St) → Ready x → (k : Kind) → Steady k → NumbersFit k → Ready (stepOf k x)
+ready-step x r k s f = ready-left x r k s (ready-number x r k s) f

@@ -1,5 +1,5 @@
 -- What one cycle does, BA high: to an idle controller, and to a swap in each of its phases.
-use Prim.Native.Nat.{ℕ, _+_, _-_, _%_, _<_}
+use Prim.Native.Nat.{ℕ, _+_, _-_, _%_, _^_, _<_}
 use mathlib.Core.Bool.{Bool, true, false, cond, not}
 use mathlib.Core.Path.{_≡_, refl, sym, ap, _∙_, subst}
 use mathlib.Core.Logic.{_≢_, _⊎_, inl, inr}
@@ -21,7 +21,7 @@ use Rattle.transfer.specs.declared.timing.ReuBusAction.{ReuBusAction}
 use Rattle.transfer.specs.declared.timing.ReuBusAction.the-variants.{Cpu, Hold, Transfer}
 use Rattle.transfer.specs.Bytes.{bit}
 use Rattle.controller.specs.Reu.{reuOf, reg, withRelease, withRepeat, withDelay, withHistory, withDma}
-use Rattle.transfer.specs.Memory.{putStorage}
+use Rattle.transfer.specs.Memory.{lines, putStorage}
 use Rattle.controller.specs.Timing.{c64Access}
 use Rattle.transfer.specs.Timing.{actionForCycle}
 use Rattle.transfer.specs.Dma.{moved, neither}
@@ -40,7 +40,7 @@ cycle-computed = tt
 abbrev ready : Reu → Bool → Bool → ℕ → Bool → Bool → Dma → Reu
 ready u terminal refresh delay attached high d =
     reuOf (u .regs) (u .«shadow_c64_addr») (u .«shadow_reu_addr») (u .«shadow_len») (u .enabled) (u .«irq_pending») attached (u .«waiting_ff00»)
-    high (u .«recall_repeat») terminal (u .«late_ba_fall») refresh (u .«swap_release_pending») delay d (u .«granted_cycles»)
+    high (u .«recall_repeat») terminal (u .«late_ba_fall») refresh (u .«swap_release_pending») delay d (u .«granted_cycles») (u .size)
 
 -- a swap's transfer state, no address fixed
 abbrev pub swapState : SwapPhase → ℕ → ℕ → ℕ → ℕ → Bool → Bool → Bool → DmaState
@@ -99,9 +99,9 @@ writing-is u c e r l h =
 pub record ReadStep (u : Reu) (c e r : ℕ) (m s : List ℕ) (t : Ticked) (a : ReuBusAction) : Type 0 where
   pub granted : a ≡ Transfer
   pub bus : t .1 ≡ m
-  pub storage : t .2 ≡ set s (e % 524288) (getD m c 0)
+  pub storage : t .2 ≡ set s (e % 2 ^ lines (u .size)) (getD m c 0)
   pub regs : t .0 .reu .regs ≡ u .regs
-  pub phase : Writing (t .0 .reu) c e r (getD s (e % 524288) 0)
+  pub phase : Writing (t .0 .reu) c e r (getD s (e % 2 ^ lines (u .size)) 0)
 
 read-ready : (u : Reu) (w : Bool) (c e r l : ℕ) (auto one odd : Bool) (m s : List ℕ) (n : ℕ) (low : Bool)
     → ReadStep u c e r m s
@@ -289,7 +289,7 @@ still : {answer waiting was repeat terminal late refresh release : Bool} {delay 
     → IdleStep u m s (
       ticked answer neither
           (reuOf (u .regs) (u .«shadow_c64_addr») (u .«shadow_reu_addr») (u .«shadow_len») (u .enabled) (u .«irq_pending») (u .attached) waiting was repeat terminal late
-          refresh release delay Idle count),
+          refresh release delay Idle count (u .size)),
       m,
       s,
     )
@@ -303,7 +303,7 @@ before-choice u refresh high delay = withRepeat (withHistory (ready u false refr
 idle-choice : (u : Reu) (refresh high : Bool) (delay : ℕ) (m s : List ℕ) (n : ℕ) (low : Bool) (none last : Bool)
     → (v : Reu) → v ≡ before-choice u refresh high delay
     → (g : BusAnswer) → g ≡ cond none (granted Cpu v) (granted (cond last Transfer Hold) (withDelay v (delay - 1)))
-    → IdleStep u m s (cycleBy (g .action) (g .reu) m (putStorage (g .put) s) n low)
+    → IdleStep u m s (cycleBy (g .action) (g .reu) m (putStorage (u .size) (g .put) s) n low)
 unfolding counted cycleBy tickDma tickOf
 idle-choice u refresh high delay m s n low false true v p g q = rw (q, p) (still u m s)
 idle-choice u refresh high delay m s n low false false v p g q = rw (q, p) (still u m s)

@@ -11,11 +11,11 @@ use borrow.Author.Tests.{eq-eqb, ne-eqb, eqb-true, eqb-false, le-leb, leb-true, 
 use Rattle.transfer.specs.Bytes.{bit}
 use Rattle.transfer.proofs.Pick.{by-test}
 use Rattle.controller.specs.Cycle.{mostGranted, capped}
-use Rattle.claims.specs.Calls.{Held, Other, new, reset, setEnabled, storagePresent, capacityBytes, triggerFf00, dmaActive, busAction, cpuReady, debugRegister, c64Access, tickDma, Kind, read, write, cycle, other, grantOf, Call, Fits, leaves, accepts, next, after, Each, All, count}
+use Rattle.claims.specs.Calls.{Held, Other, new, reset, setSize, setEnabled, storagePresent, capacityBytes, triggerFf00, dmaActive, busAction, cpuReady, debugRegister, c64Access, tickDma, Kind, read, write, cycle, other, grantOf, Call, Fits, leaves, accepts, next, after, Each, All, count}
 use Rattle.claims.specs.SwapTwice.{granted}
 use Rattle.claims.specs.GrantedCycles.{number, zeroesOther, zeroesBy, zeroes, since, GrantedCycles}
 use Rattle.claims.specs.SavedMachine.{OnOneImage}
-use Rattle.controller.specs.Enable.{newReu}
+use Rattle.controller.specs.Enable.{newReu, setSize as core-setSize}
 use Rattle.image.specs.Layout.{packImage}
 use Rattle.image.proofs.Sound.{Sound}
 use Rattle.claims.proofs.States.{St, Good, held, stepOf, numberOf, good-step}
@@ -24,7 +24,7 @@ use Rattle.claims.proofs.Walk.{number-at, left-is}
 use Rattle.claims.proofs.Look.{reg-byte, attached-bit, armed-bit, count-number}
 use Rattle.claims.proofs.SavedMachine.{Holds, new-holds, accepted-holds, one-call}
 use Rattle.claims.proofs.Sessions.{scripts}
-use Rattle.claims.proofs.GrantedLaw.{after-start, read-keeps, switch-keeps, grant-keeps, tick-keeps, cycle-counts, trigger-zeroes, write-zeroes}
+use Rattle.claims.proofs.NumberLaw.{Numbers, of, after-start, read-keeps, switch-keeps, grant-keeps, tick-keeps, cycle-counts, trigger-zeroes, write-zeroes}
 
 -- ---- one call
 
@@ -32,31 +32,37 @@ use Rattle.claims.proofs.GrantedLaw.{after-start, read-keeps, switch-ke
 abbrev tallied : Bool → Bool → ℕ → ℕ
 tallied zeroed more n = cond zeroed 0 (cond more (capped (n + 1)) n)
 
+abbrev countOf : Numbers → ℕ
+countOf p = p .0
+
 module _ (x : St) (sound : Sound (x .u)) where
   abbrev now : ℕ
   now = x .u .«granted_cycles»
 
   other-step : (o : Other) → stepOf (other o) x .u .«granted_cycles» ≡ tallied (zeroesOther o (held x)) false now
+  unfolding core-setSize
   other-step new = refl
   other-step (reset h) = refl
-  other-step (setEnabled e) = switch-keeps (x .u) (x .s) _
+  other-step (setSize n) = refl
+  other-step (setEnabled e) = ap countOf (switch-keeps (x .u) (x .s) _)
   other-step storagePresent = refl
   other-step capacityBytes = refl
   other-step triggerFf00 =
-      trigger-zeroes (x .u)
-      ∙ sym (λ i. after-start (attached-bit x sound i) (armed-bit x sound i && bit (reg-byte x sound 1 (omega arith) i) 7) now)
+      ap countOf (trigger-zeroes (x .u))
+      ∙ sym (λ i. after-start (attached-bit x sound i) (armed-bit x sound i && bit (reg-byte x sound 1 (omega arith) i) 7) (of (x .u)) .0)
   other-step dmaActive = refl
-  other-step (busAction h p n) = grant-keeps (x .u) (x .s) _ _ n
+  other-step (busAction h p n) = ap countOf (grant-keeps (x .u) (x .s) _ _ n)
   other-step (cpuReady h) = refl
   other-step (debugRegister i) = refl
   other-step c64Access = refl
-  other-step (tickDma n l) = tick-keeps (x .u) (x .m) (x .s) n _
+  other-step (tickDma n l) = ap countOf (tick-keeps (x .u) (x .m) (x .s) n _)
 
   kind-step : (k : Kind) → numberOf k x ≡ 0 → stepOf k x .u .«granted_cycles» ≡ tallied (zeroesBy k (held x)) (eqb (grantOf k (held x)) 2) now
-  kind-step (read a) z = read-keeps (x .u) a
-  kind-step (write a v) z = write-zeroes (x .u) a v ∙ sym (ap (λ (t : Bool). after-start t (eqb (a % 32) 1 && (bit v 7 && bit v 4)) now) (attached-bit x sound))
+  kind-step (read a) z = ap countOf (read-keeps (x .u) a)
+  kind-step (write a v) z =
+      ap countOf (write-zeroes (x .u) a v) ∙ sym (ap (λ (t : Bool). after-start t (eqb (a % 32) 1 && (bit v 7 && bit v 4)) (of (x .u)) .0) (attached-bit x sound))
   kind-step (cycle h n l p) z =
-      cycle-counts (x .u) (x .m) (x .s) _ _ n _
+      ap countOf (cycle-counts (x .u) (x .m) (x .s) _ _ n _)
       ∙ sym (ap (λ (g : ℕ). tallied false (eqb g 2) now) (answer-is x sound (other (busAction h p n)) (without-bus (x .u) _ _ z)))
   kind-step (other o) z = other-step o
 
@@ -79,7 +85,7 @@ one-tally k c lent f h true ok =
     let good : Good x = record { sound = h .sound; bus = f .bus; storage = f .storage } in
     ap (λ (b : Bool). number (cond b (leaves c) k)) ok
     ∙ ap number (left-is x c (h .sound) ok le)
-    ∙ count-number (stepOf (c .kind) x) (good-step x good (c .kind) (f .numbers) .sound)
+    ∙ count-number (stepOf (c .kind) x) (good-step x good (c .kind) (number-at x c (h .sound) ok le) (f .numbers) .sound)
     ∙ kind-step x (h .sound) (c .kind) (number-at x c (h .sound) ok le)
     ∙ sym (λ i. tallied (ok i && zeroesBy (c .kind) (le i)) (ok i && eqb (grantOf (c .kind) (le i)) 2) (holds-number k h i))
 one-tally k c lent f h false e =

@@ -2,7 +2,7 @@ pub mod Accepted
 pub mod States
 pub mod Walk
 pub mod SavedMachine
-pub mod GrantedLaw
+pub mod NumberLaw
 pub mod CycleLaw
 pub mod RegisterLaw
 pub mod Exchange

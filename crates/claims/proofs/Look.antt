@@ -19,13 +19,13 @@ use Rattle.controller.specs.declared.reu.Reu.{Reu}
 use Rattle.image.specs.declared.Opened.{Opened}
 use Rattle.image.specs.Fields.{laid, lifted}
 use Rattle.image.specs.Open.{openImage}
-use Rattle.image.specs.Layout.{fields, imageSize, at, flags, grantedCycles, packImage, reuAt, present, otherNumbers}
+use Rattle.image.specs.Layout.{fields, imageSize, at, flags, grantedCycles, sizeOf, packImage, reuAt, present, otherNumbers}
 use Rattle.reu.specs.Exports.{reuDebugRegister}
 use Rattle.claims.specs.Calls.{Held, debugRegister, read, other}
-use Rattle.claims.specs.SwapTwice.{byte, Start, OfBlock, Shown, Ended}
+use Rattle.claims.specs.SwapTwice.{byte, sizeSet, Start, OfBlock, Shown, Ended}
 use Rattle.image.proofs.Opening.{opened-is as opening-is, opened-long}
 use Rattle.image.proofs.Packed.{open-pack, pack-is, pack-long}
-use Rattle.image.proofs.ByBytes.{listed, registers-are, flags-byte, dma-none}
+use Rattle.image.proofs.ByBytes.{listed, registers-are, flags-byte, more-byte, dma-none}
 use Rattle.image.proofs.Sound.{Sound}
 use Rattle.image.proofs.Valid.{open-sound, pack-back, sound-well, sound-typed}
 use Rattle.claims.proofs.States.{St, held, Ready, ready-of}
@@ -87,6 +87,12 @@ module _ (x : St) (sound : Sound (x .u)) where
   unfolding reuAt
   armed-bit = flag-bit 3 ∙ ap (λ (u : Reu). u .«waiting_ff00») reopened
 
+  -- the size that is set
+  pub size-byte : sizeSet (held x) ≡ x .u .size
+  unfolding reuAt
+  size-byte =
+      ap (λ (v : ℕ). sizeOf (v / 4)) (sym (more-byte (packImage (x .u)) whole)) ∙ ap (λ (u : Reu). u .size) reopened
+
   -- the count of granted cycles, from its four bytes
   pub count-number : number (held x) ≡ x .u .«granted_cycles»
   unfolding reuAt
@@ -143,17 +149,21 @@ abbrev pub opened : Held → St
 opened k = record { u = reuAt (k .image); m = k .bus; s = k .storage }
 
 module _ (k : Held) (st : Start k) where
+  long : length (k .image) ≡ imageSize
+  long = opened-long (k .image) (st .accepted)
+
+  pub size-is : sizeSet k ≡ opened k .u .size
+  unfolding reuAt
+  size-is = ap (λ (v : ℕ). sizeOf (v / 4)) (sym (more-byte (k .image) long))
+
   pub opened-ready : Ready (opened k)
   opened-ready =
       let mem = st .memories in
       ready-of (opened k) (record { sound = open-sound (k .image) (st .image-bytes) (st .accepted); bus = mem .bus-bytes; storage = mem .storage-bytes })
-      (mem .bus-size) (mem .storage-size)
+      (mem .bus-size) (mem .storage-size ∙ size-is)
 
   pub opened-is : held (opened k) ≡ k
   opened-is = λ i. record { image = pack-back (k .image) (st .image-bytes) (st .accepted) i; bus = k .bus; storage = k .storage }
-
-  long : length (k .image) ≡ imageSize
-  long = opened-long (k .image) (st .accepted)
 
   control : reg (reuAt (k .image)) 10 ≡ byte k 10
   unfolding reuAt

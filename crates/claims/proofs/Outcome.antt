@@ -1,5 +1,5 @@
 -- What runs A and B come to, from any two starts.
-use Prim.Native.Nat.{ℕ, _+_, _*_, _/_, _%_}
+use Prim.Native.Nat.{ℕ, _+_, _*_, _/_, _%_, _^_, _≤_}
 use mathlib.Core.Bool.{true}
 use mathlib.Core.Path.{_≡_, refl, sym, ap, _∙_, subst, subst₂, subst₃, fun-ext}
 use mathlib.Core.Logic.{_≢_}
@@ -10,15 +10,17 @@ use Rattle.transfer.specs.declared.dma.Dma.the-variants.{Idle}
 use Rattle.transfer.specs.Bytes.{word, long}
 use Rattle.controller.specs.Reu.{reg}
 use Rattle.transfer.specs.Dma.{lengthOf}
-use Rattle.claims.specs.Calls.{Held, Kind, NumbersFit, Call, leaves, accepts, next, after, Each, count}
-use Rattle.claims.specs.SwapTwice.{IsIdle, Start, Step, cycles, reads, writes, AnyStep, NoWrite, register, wrote, granted, High, Run, OfBlock, Shown, ShownAll, busPlace, storagePlace, blockLength, Exchanged, SwapsAtOnce, Rewrites, Ended, OnceEnded, Swap, Parts, listOf, atStart, atRestart, RunA, RunB, EndsAt, Outcome}
+use Rattle.transfer.specs.Memory.{lines}
+use Rattle.transfer.proofs.Sizes.{size-lines, fold-fold}
+use Rattle.claims.specs.Calls.{Held, Kind, read, cycle, NumbersFit, Call, leaves, accepts, next, after, Each, count}
+use Rattle.claims.specs.SwapTwice.{sizeSet, IsIdle, Start, Step, cycles, reads, writes, AnyStep, NoWrite, register, wrote, granted, High, Run, OfBlock, Shown, ShownAll, busPlace, storagePlace, blockLength, Exchanged, SwapsAtOnce, Rewrites, Ended, OnceEnded, Swap, Parts, listOf, atStart, atRestart, RunA, RunB, EndsAt, Outcome}
 use Rattle.image.proofs.Sound.{Sound}
 use Rattle.claims.proofs.RegisterLaw.{read-law, Value, pair-done}
 use Rattle.claims.proofs.Exchange.{Exch, exch-twice}
-use Rattle.claims.proofs.States.{St, Good, held, on, stepOf, numberOf, good-step, Ready, ready-of, good-of}
+use Rattle.claims.proofs.States.{St, Good, held, on, stepOf, numberOf, keeps-size, good-step, Ready, ready-of, good-of}
 use Rattle.claims.proofs.Accepted.{leaves-is}
-use Rattle.claims.proofs.Walk.{after-append, each-left, each-right, each-both, each-of-all, widen, At, each-at, next-is, Walked, walk}
-use Rattle.claims.proofs.Look.{idle-byte, shown-value, Idling, opened, opened-ready, opened-is, opened-idling}
+use Rattle.claims.proofs.Walk.{after-append, each-left, each-right, each-both, each-of-all, widen, At, each-at, number-at, next-is, Walked, walk}
+use Rattle.claims.proofs.Look.{idle-byte, shown-value, Idling, opened, size-is, opened-ready, opened-is, opened-idling}
 use Rattle.claims.proofs.Swap.{onBus, onStorage, Allowed, idle-high, c64-of, exp-of, len-of, Swapping, SwapFrom, OverFrom, over-from, ended-from, step-from, begins}
 
 -- ---- what is known of each call, joined
@@ -36,24 +38,25 @@ joined P Q R f = each-both (At P) Q (At R) (λ h c a b. record { lent = a .lent;
 
 -- ---- idle stretches
 
--- reads and cycles change no byte, and nothing by which a command starts
-abbrev Resting : List ℕ → List ℕ → ℕ → (ℕ → ℕ) → St → Type 0
-Resting m s k g x = Idling x × (x .m ≡ m) × (x .s ≡ s)
+-- reads and cycles change no byte, not the size, and nothing by which a command starts
+abbrev Resting : List ℕ → List ℕ → ℕ → ℕ → (ℕ → ℕ) → St → Type 0
+Resting m s n k g x = Idling x × (x .m ≡ m) × (x .s ≡ s) × (x .u .size ≡ n)
 
 abbrev RestingCall : Held → Call → Type 0
 RestingCall h c = High (c .kind) × Step (Unit {0}) NoWrite (c .kind)
 
-rest : (m s : List ℕ) (x : St) {d : Kind} → High d → Step (Unit {0}) NoWrite d → Resting m s 0 (λ r. 0) x → Resting m s 0 (λ r. 0) (stepOf d x)
-rest m s x hi (reads {address = a} any) r =
+rest : (m s : List ℕ) (n : ℕ) (x : St) {d : Kind} → High d → Step (Unit {0}) NoWrite d → Resting m s n 0 (λ r. 0) x → Resting m s n 0 (λ r. 0) (stepOf d x)
+rest m s z x hi (reads {address = a} any) r =
     let ke = read-law (x .u) a in
-    (record { idle = ke .dma ∙ r .0 .idle; attached = ke .attached ∙ r .0 .attached; free = ap (λ (v : ℕ). v / 64) (ke .regs 10 (omega arith)) ∙ r .0 .free }, r .1, r .2)
-rest m s x hi (cycles {high = h} {number = n} {low = l} {phi1 = p}) r =
+    (record { idle = ke .dma ∙ r .0 .idle; attached = ke .attached ∙ r .0 .attached; free = ap (λ (v : ℕ). v / 64) (ke .regs 10 (omega arith)) ∙ r .0 .free }, r .1, r .2, keeps-size (read a) x tt ∙ r .3)
+rest m s z x hi (cycles {high = h} {number = n} {low = l} {phi1 = p}) r =
     let st = idle-high x h n l p hi (r .0 .idle) in (
       record { idle = st .kept .dma; attached = st .kept .attached ∙ r .0 .attached; free = ap (λ (v : ℕ). v / 64) (st .kept .regs 10 (omega arith)) ∙ r .0 .free },
       st .bus ∙ r .1,
       st .storage ∙ r .2,
+      keeps-size (cycle h n l p) x tt ∙ r .3,
     )
-rest m s x hi (writes none) r = absurd none
+rest m s z x hi (writes none) r = absurd none
 
 -- whatever run B writes, it stays idle, and no byte changes
 abbrev StillIdle : List ℕ → List ℕ → ℕ → (ℕ → ℕ) → St → Type 0
@@ -70,7 +73,7 @@ same-bytes x hi (cycles {high = h} {number = n} {low = l} {phi1 = p}) e = let st
 still-idle : (m s : List ℕ) (x : St) (d : Kind) → Good x → numberOf d x ≡ 0 → NumbersFit d → IdleCall (held x) (on x d) → StillIdle m s 0 (λ r. 0) x → StillIdle m s 0 (λ r. 0) (stepOf d x)
 still-idle m s x d good z fi c r =
     let b = same-bytes x (c .0) (c .1) (r .0) in
-    (idle-byte (stepOf d x) (good-step x good d fi .sound) (subst IsIdle (leaves-is x (good .sound) d z) (c .2)), b .0 ∙ r .1, b .1 ∙ r .2)
+    (idle-byte (stepOf d x) (good-step x good d z fi .sound) (subst IsIdle (leaves-is x (good .sound) d z) (c .2)), b .0 ∙ r .1, b .1 ∙ r .2)
 
 -- ---- one swap, and the calls up to the next start
 
@@ -113,7 +116,7 @@ module _ (k : Held) (x : St) (c : Call) (cs : List Call) (f : FromStart k x c cs
   reached done left split =
       let begun : next k c ≡ held (stepOf (c .kind) x) = ap (λ (h : Held). next h c) (f .same) ∙ next-is x c (f .ready .sound) (f .ok) (f .lent ∙ f .same) in
       let w = walk (SwapFrom x (f .ready)) (Swapping x) (λ j g y d good. step-from x (f .ready) j g y d (good .sound)) done (stepOf (c .kind) x) 0 (λ r. 0)
-      (good-step x (good-of x (f .ready)) (c .kind) (f .numbers)) (begins x (f .ready) (f .idling) (f .swaps))
+      (good-step x (good-of x (f .ready)) (c .kind) (number-at x c (f .ready .sound) (f .ok) (f .lent ∙ f .same)) (f .numbers)) (begins x (f .ready) (f .idling) (f .swaps))
       (each-left (At (Swapping x)) (held (stepOf (c .kind) x)) done left
       (subst₂ (λ (h : Held) (l : List Call). Each (At (Swapping x)) h l) begun split (f .calls))) in
       record { to = w .to; same = ap (λ (h : Held). after h done) begun ∙ w .same; good = w .good; inv = w .inv }
@@ -137,11 +140,14 @@ module _ (k : Held) (x : St) (c : Call) (cs : List Call) (f : FromStart k x c cs
 
 -- ---- the block that is shown
 
--- the upper five bits of the bank make no difference
-same-places : (e e′ lo hi b b′ : ℕ) → b′ % 8 ≡ b % 8 → e ≡ long lo hi b → e′ ≡ long lo hi b′ → (i : ℕ) → onStorage e′ i ≡ onStorage e i
-same-places e e′ lo hi b b′ q p p′ i = omega arith
+-- the upper five bits of the bank make no difference, with at most 19 lines
+same-places : (lines e e′ lo hi b b′ : ℕ) → lines ≤ 19 → b′ % 8 ≡ b % 8 → e ≡ long lo hi b → e′ ≡ long lo hi b′ → (i : ℕ)
+    → onStorage lines e′ i ≡ onStorage lines e i
+same-places lines e e′ lo hi b b′ h q p p′ i =
+    let same : (e′ + i) % 524288 ≡ (e + i) % 524288 = omega arith in
+    sym (fold-fold (e′ + i) lines 19 h) ∙ ap (λ (n : ℕ). n % 2 ^ lines) same ∙ fold-fold (e + i) lines 19 h
 
-module _ (k : Held) (x : St) (e : k ≡ held x) (sound : Sound (x .u)) (w : ℕ → ℕ) (shown : ShownAll k w) where
+module _ (k : Held) (x : St) (e : k ≡ held x) (sound : Sound (x .u)) (w : ℕ → ℕ) (shown : ShownAll k w) (size : ℕ) (set : x .u .size ≡ size) where
   value : (r : ℕ) → OfBlock r → Value (reg (x .u)) r (w r)
   value r b = shown-value x sound r (w r) b (subst (λ (h : Held). Shown h r (w r)) e (shown r b))
 
@@ -151,11 +157,12 @@ module _ (k : Held) (x : St) (e : k ≡ held x) (sound : Sound (x .u)) (w : ℕ 
   bus-place : (i : ℕ) → onBus (c64-of (x .u)) i ≡ busPlace w i
   bus-place i = omega (arith, shows 2 (omega arith) (omega arith), shows 3 (omega arith) (omega arith))
 
-  storage-place : (i : ℕ) → onStorage (exp-of (x .u)) i ≡ storagePlace w i
+  storage-place : (i : ℕ) → onStorage (lines (x .u .size)) (exp-of (x .u)) i ≡ storagePlace size w i
   storage-place i =
-      sym (same-places (exp-of (x .u)) (long (w 4) (w 5) (w 6)) (reg (x .u) 4) (reg (x .u) 5) (reg (x .u) 6) (w 6) (value 6 (omega arith) .0) refl
+      sym (same-places (lines (x .u .size)) (exp-of (x .u)) (long (w 4) (w 5) (w 6)) (reg (x .u) 4) (reg (x .u) 5) (reg (x .u) 6) (w 6)
+      (size-lines (x .u .size) (sound .size) .most) (value 6 (omega arith) .0) refl
       (λ j. long (shows 4 (omega arith) (omega arith) j) (shows 5 (omega arith) (omega arith) j) (w 6)) i)
-      ∙ omega arith
+      ∙ ap (λ (n : ℕ). storagePlace n w i) set
 
   block-length : len-of (x .u) ≡ blockLength w
   unfolding lengthOf
@@ -164,11 +171,12 @@ module _ (k : Held) (x : St) (e : k ≡ held x) (sound : Sound (x .u)) (w : ℕ 
       = omega (arith, shows 7 (omega arith) (omega arith), shows 8 (omega arith) (omega arith)) in
       ap lengthOf q
 
-  shown-block : (a b : Held) → Exch (onBus (c64-of (x .u))) (onStorage (exp-of (x .u))) (len-of (x .u)) (a .bus) (a .storage) (b .bus) (b .storage)
+  shown-block : (a b : Held) → sizeSet a ≡ size
+      → Exch (onBus (c64-of (x .u))) (onStorage (lines (x .u .size)) (exp-of (x .u))) (len-of (x .u)) (a .bus) (a .storage) (b .bus) (b .storage)
       → Exchanged w a b
-  shown-block a b ex =
-      let f : Exch (busPlace w) (storagePlace w) (blockLength w) (a .bus) (a .storage) (b .bus) (b .storage)
-      = subst₃ (λ (C E : ℕ → ℕ) (n : ℕ). Exch C E n (a .bus) (a .storage) (b .bus) (b .storage)) (fun-ext bus-place) (fun-ext storage-place) block-length ex in
+  shown-block a b same ex =
+      let f : Exch (busPlace w) (storagePlace (sizeSet a) w) (blockLength w) (a .bus) (a .storage) (b .bus) (b .storage)
+      = subst₃ (λ (C E : ℕ → ℕ) (n : ℕ). Exch C E n (a .bus) (a .storage) (b .bus) (b .storage)) (fun-ext bus-place) (fun-ext (λ i. storage-place i ∙ ap (λ (n : ℕ). storagePlace n w i) (sym same))) block-length ex in
       record { to-bus = f .to-bus; to-storage = f .to-storage; other-bus = f .other-bus; other-storage = f .other-storage; bus-size = f .bus-size; storage-size = f .storage-size }
 
 -- ---- run A
@@ -187,10 +195,10 @@ module _ (a : Held) (p : Parts) (sa : Start a) (ra : RunA a p) where
   high-last = each-right (At HighAt) (next (atStart a p) (p .start)) (p .middle) (p .restart ∷ p .last) (high-tail .1)
 
   -- up to the first start
-  first-part : Walked (Resting (a .bus) (a .storage)) RestingCall (λ k g x d good z fi c r. rest (a .bus) (a .storage) x (c .0) (c .1) r) (opened a) (p .before) 0 (λ r. 0)
+  first-part : Walked (Resting (a .bus) (a .storage) (opened a .u .size)) RestingCall (λ k g x d good z fi c r. rest (a .bus) (a .storage) (opened a .u .size) x (c .0) (c .1) r) (opened a) (p .before) 0 (λ r. 0)
   first-part =
-      walk (Resting (a .bus) (a .storage)) RestingCall (λ k g x d good z fi c r. rest (a .bus) (a .storage) x (c .0) (c .1) r) (p .before) (opened a) 0 (λ r. 0)
-      (good-of (opened a) (opened-ready a sa)) (opened-idling a sa, refl, refl)
+      walk (Resting (a .bus) (a .storage) (opened a .u .size)) RestingCall (λ k g x d good z fi c r. rest (a .bus) (a .storage) (opened a .u .size) x (c .0) (c .1) r) (p .before) (opened a) 0 (λ r. 0)
+      (good-of (opened a) (opened-ready a sa)) (opened-idling a sa, refl, refl, refl)
       (subst (λ (h : Held). Each (At RestingCall) h (p .before)) (sym (opened-is a sa))
       (joined HighAt (λ h c. Step (Unit {0}) NoWrite (c .kind)) RestingCall (λ h c hi q. (hi, q)) a (p .before)
       (each-left (At HighAt) a (p .before) (p .start ∷ after-start) all-high) (ra .before)))
@@ -206,6 +214,10 @@ module _ (a : Held) (p : Parts) (sa : Start a) (ra : RunA a p) where
   unfolding x₁
   storage₁ = first-part .inv .2
 
+  size₁ : x₁ .u .size ≡ sizeSet a
+  unfolding x₁
+  size₁ = first-part .inv .3 ∙ sym (size-is a sa)
+
   start-is : atStart a p ≡ held x₁
   unfolding x₁
   start-is = ap (λ (h : Held). after h (p .before)) (sym (opened-is a sa)) ∙ first-part .same
@@ -215,7 +227,7 @@ module _ (a : Held) (p : Parts) (sa : Start a) (ra : RunA a p) where
   good₁ = first-part .good
 
   ready₁ : Ready x₁
-  ready₁ = ready-of x₁ good₁ (ap length bus₁ ∙ sa .memories .bus-size) (ap length storage₁ ∙ sa .memories .storage-size)
+  ready₁ = ready-of x₁ good₁ (ap length bus₁ ∙ sa .memories .bus-size) (ap length storage₁ ∙ sa .memories .storage-size ∙ sym size₁)
 
   idling₁ : Idling x₁
   unfolding x₁
@@ -237,6 +249,10 @@ module _ (a : Held) (p : Parts) (sa : Start a) (ra : RunA a p) where
   unfolding x₃
   middle-over = over-at (atStart a p) x₁ (p .start) (p .middle) first-swap (p .middle) middle-part (ra .first .ends)
 
+  size₃ : x₃ .u .size ≡ x₁ .u .size
+  unfolding x₃
+  size₃ = middle-part .inv .1
+
   -- the registers show the same block again
   once : (r : ℕ) → OfBlock r → count (wrote r) (p .middle) + 0 ≡ 1
   once r b = omega (arith, ra .each-once r b)
@@ -251,16 +267,17 @@ module _ (a : Held) (p : Parts) (sa : Start a) (ra : RunA a p) where
       let d = pair-done (middle-over .rewritten .len) (once 7 (omega arith)) (once 8 (omega arith)) in
       λ i. lengthOf (word (d .0 i) (d .1 i))
 
-  exp-again : (i : ℕ) → onStorage (exp-of (x₃ .u)) i ≡ onStorage (exp-of (x₁ .u)) i
+  exp-again : (i : ℕ) → onStorage (lines (x₃ .u .size)) (exp-of (x₃ .u)) i ≡ onStorage (lines (x₁ .u .size)) (exp-of (x₁ .u)) i
   exp-again i =
       let d = pair-done (middle-over .rewritten .exp) (once 4 (omega arith)) (once 5 (omega arith)) in
-      same-places (exp-of (x₁ .u)) (exp-of (x₃ .u)) (reg (x₁ .u) 4) (reg (x₁ .u) 5) (reg (x₁ .u) 6) (reg (x₃ .u) 6)
-      (middle-over .rewritten .bank (omega (arith, once 6 (omega arith)))) refl (λ j. long (d .0 j) (d .1 j) (reg (x₃ .u) 6)) i
+      ap (λ (n : ℕ). onStorage (lines n) (exp-of (x₃ .u)) i) size₃
+      ∙ same-places (lines (x₁ .u .size)) (exp-of (x₁ .u)) (exp-of (x₃ .u)) (reg (x₁ .u) 4) (reg (x₁ .u) 5) (reg (x₁ .u) 6) (reg (x₃ .u) 6)
+      (size-lines (x₁ .u .size) (good₁ .sound .size) .most) (middle-over .rewritten .bank (omega (arith, once 6 (omega arith)))) refl (λ j. long (d .0 j) (d .1 j) (reg (x₃ .u) 6)) i
 
   ready₃ : Ready x₃
   unfolding x₃
   ready₃ =
-      ready-of x₃ (middle-part .good) (middle-over .exch .bus-size ∙ ready₁ .bus .size) (middle-over .exch .storage-size ∙ ready₁ .storage .size)
+      ready-of x₃ (middle-part .good) (middle-over .exch .bus-size ∙ ready₁ .bus .size) (middle-over .exch .storage-size ∙ ready₁ .storage .size ∙ sym size₃)
 
   -- the second swap
   second-swap : FromStart (atRestart a p) x₃ (p .restart) (p .last)
@@ -276,7 +293,7 @@ module _ (a : Held) (p : Parts) (sa : Start a) (ra : RunA a p) where
 
   back : (last-part .to .m ≡ x₁ .m) × (last-part .to .s ≡ x₁ .s)
   back =
-      exch-twice (onBus (c64-of (x₁ .u))) (onStorage (exp-of (x₁ .u))) (len-of (x₁ .u)) (x₁ .m) (x₁ .s) (x₃ .m) (x₃ .s) (last-part .to .m) (last-part .to .s)
+      exch-twice (onBus (c64-of (x₁ .u))) (onStorage (lines (x₁ .u .size)) (exp-of (x₁ .u))) (len-of (x₁ .u)) (x₁ .m) (x₁ .s) (x₃ .m) (x₃ .s) (last-part .to .m) (last-part .to .s)
       (middle-over .exch)
       (subst₃ (λ (C E : ℕ → ℕ) (n : ℕ). Exch C E n (x₃ .m) (x₃ .s) (last-part .to .m) (last-part .to .s))
       (ap onBus c64-again) (fun-ext exp-again) len-again
@@ -297,11 +314,11 @@ module _ (a : Held) (p : Parts) (sa : Start a) (ra : RunA a p) where
         let r = reached (atStart a p) x₁ (p .start) (p .middle) first-swap done left split in
         let ex = over-at (atStart a p) x₁ (p .start) (p .middle) first-swap done r en .exch in
         subst (Exchanged w a) (sym (r .same))
-        (shown-block (atStart a p) x₁ start-is (good₁ .sound) w shown a (held (r .to))
-        (subst₂ (λ (m s : List ℕ). Exch (onBus (c64-of (x₁ .u))) (onStorage (exp-of (x₁ .u))) (len-of (x₁ .u)) m s (r .to .m) (r .to .s)) bus₁ storage₁ ex))
+        (shown-block (atStart a p) x₁ start-is (good₁ .sound) w shown (sizeSet a) size₁ a (held (r .to)) refl
+        (subst₂ (λ (m s : List ℕ). Exch (onBus (c64-of (x₁ .u))) (onStorage (lines (x₁ .u .size)) (exp-of (x₁ .u))) (len-of (x₁ .u)) m s (r .to .m) (r .to .s)) bus₁ storage₁ ex))
 
     length-is : len-of (x₁ .u) ≡ blockLength w
-    length-is = block-length (atStart a p) x₁ start-is (good₁ .sound) w shown
+    length-is = block-length (atStart a p) x₁ start-is (good₁ .sound) w shown (sizeSet a) size₁
 
     first-length : EndsAt (blockLength w) (atStart a p) (p .start) (p .middle)
     first-length = ends-at (atStart a p) x₁ (p .start) (p .middle) first-swap (blockLength w) length-is

@@ -12,12 +12,12 @@ use Rattle.image.specs.Valid.{Bytes}
 use Rattle.image.proofs.Packed.{open-pack, pack-bytes}
 use Rattle.image.proofs.Unpacked.{pack-opened}
 use Rattle.image.proofs.Sound.{Sound}
-use Rattle.image.proofs.SoundCalls.{sound-fresh}
+use Rattle.image.proofs.SoundCalls.{sound-new}
 use Rattle.image.proofs.Valid.{sound-well, sound-typed, open-sound, pack-back}
 use Rattle.claims.specs.Calls.{Held, Call, Fits, leaves, accepts, next, after, Each, All}
 use Rattle.claims.specs.SavedMachine.{RoundTrips, Opens, EveryStateOpens}
 use Rattle.claims.proofs.States.{St, Good, held, stepOf, good-step}
-use Rattle.claims.proofs.Walk.{left-is}
+use Rattle.claims.proofs.Walk.{number-at, left-is}
 
 pub round-trips : RoundTrips
 round-trips = record { opened = open-pack; bytes = pack-bytes; packed = pack-opened }
@@ -30,7 +30,7 @@ pub record Holds (image : List ℕ) : Type 0 where
 
 -- a new one does, and an accepted one
 abbrev pub new-holds : (i : List ℕ) → i ≡ packImage newReu → Holds i
-new-holds i e = record { reu = newReu; sound = sound-fresh false false; packed = e }
+new-holds i e = record { reu = newReu; sound = sound-new; packed = e }
 
 pub accepted-holds : (i : List ℕ) → Bytes i → openImage i .refusal ≡ 0 → Holds i
 accepted-holds i b z = record { reu = reuAt i; sound = open-sound i b z; packed = sym (pack-back i b z) }
@@ -53,7 +53,7 @@ leaves-holds c f h ok =
     let lent : c .lent ≡ held x = λ i. record { image = h .packed i; bus = c .lent .bus; storage = c .lent .storage } in
     record {
       reu = stepOf (c .kind) x .u;
-      sound = good-step x good (c .kind) (f .numbers) .sound;
+      sound = good-step x good (c .kind) (number-at x c (h .sound) ok lent) (f .numbers) .sound;
       packed = ap (λ (k : Held). k .image) (left-is x c (h .sound) ok lent);
     }
 

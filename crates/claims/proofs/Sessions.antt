@@ -2,7 +2,7 @@
 use Prim.Native.Nat.{ℕ}
 use mathlib.Core.Bool.{Bool, true, false, not}
 use mathlib.Core.Logic.{_≢_}
-use mathlib.Core.Path.{_≡_, refl, ap, _∙_}
+use mathlib.Core.Path.{_≡_, refl, sym, ap, _∙_}
 use mathlib.Core.List.{List, [], _∷_, _++_}
 use lib.ListN.{length, getD, set, length-set}
 use lib.Seq.{getD-set-same, getD-set-other}
@@ -12,7 +12,8 @@ use borrow.Author.Tests.{eq-eqb, ne-eqb}
 use Rattle.controller.specs.declared.reu.Reu.{Reu}
 use Rattle.controller.specs.declared.reu.TickAnswer.{TickAnswer}
 use Rattle.transfer.specs.declared.memory.Put.the-variants.{Nothing}
-use Rattle.transfer.specs.Memory.{putBus, putStorage}
+use lib.Count.{trailingZeros}
+use Rattle.transfer.specs.Memory.{putBus, putStorage, lines}
 use Rattle.transfer.specs.Dma.{withTail}
 use Rattle.controller.specs.Registers.{readRegister, writeRegister, writeCommand, debugRegister as core-debugRegister}
 use Rattle.controller.specs.Timing.{c64Access as core-c64Access}
@@ -31,17 +32,38 @@ use Rattle.reu.specs.Exports.{flag}
 use Rattle.claims.specs.Calls.{Held, Memories, reset, setEnabled, triggerFf00, busAction, debugRegister, tickDma, Kind, read, write, cycle, other, NumbersFit, Done, does, grantOf}
 use Rattle.claims.specs.Sessions.{play, answers, grants, shows, eleven, level, begin, ticks, r4, r5, r10, r13, r14, r16, new, enabled, run, Table, Sessions}
 use Rattle.image.proofs.Sound.{Sound}
-use Rattle.image.proofs.SoundCalls.{sound-fresh}
-use Rattle.claims.proofs.States.{St, held, stepOf, valueOf, Ready, ready-of, ready-step}
-use Rattle.claims.proofs.Accepted.{does-is, ready-number}
+use Rattle.image.proofs.SoundCalls.{sound-new, sound-fresh}
+use Rattle.transfer.proofs.Sizes.{size-512}
+use Rattle.transfer.specs.Constants.{newSize}
+use Rattle.claims.proofs.States.{St, held, stepOf, valueOf, Steady, Ready, ready-of}
+use Rattle.claims.proofs.Accepted.{does-is, ready-number, ready-step}
 use Rattle.claims.proofs.Look.{irq-bit, count-number}
 use Rattle.claims.specs.GrantedCycles.{number, Counted}
 
 -- ---- scripts, on the controller
 
+-- every number fits, and no size is set
+abbrev Fit : Kind → Type 0
+Fit (read a) = NumbersFit (read a)
+Fit (write a v) = NumbersFit (write a v)
+Fit (cycle h n l p) = NumbersFit (cycle h n l p)
+Fit (other o) = Steady (other o)
+
+fit-numbers : (d : Kind) → Fit d → NumbersFit d
+fit-numbers (read a) f = f
+fit-numbers (write a v) f = f
+fit-numbers (cycle h n l p) f = f
+fit-numbers (other o) f = tt
+
+fit-steady : (d : Kind) → Fit d → Steady d
+fit-steady (read a) f = tt
+fit-steady (write a v) f = tt
+fit-steady (cycle h n l p) f = tt
+fit-steady (other o) f = f
+
 abbrev AllFit : List Kind → Type 0
 AllFit [] = Unit {0}
-AllFit (d ∷ ds) = NumbersFit d × AllFit ds
+AllFit (d ∷ ds) = Fit d × AllFit ds
 
 abbrev to : List Kind → St → St
 to [] x = x
@@ -63,33 +85,33 @@ grantsAt (d ∷ ds) x = grantAt d x ∷ grantsAt ds (stepOf d x)
 
 ready-to : (ds : List Kind) (x : St) → Ready x → AllFit ds → Ready (to ds x)
 ready-to [] x g f = g
-ready-to (d ∷ ds) x g f = ready-to ds (stepOf d x) (ready-step x g d (f .0)) (f .1)
+ready-to (d ∷ ds) x g f = ready-to ds (stepOf d x) (ready-step x g d (fit-steady d (f .0)) (fit-numbers d (f .0))) (f .1)
 
-does-ready : (d : Kind) (x : St) → Ready x → does d (held x) ≡ record { answer = valueOf d x; left = held (stepOf d x) }
-does-ready d x g = does-is x (g .sound) d (ready-number x g d)
+does-ready : (d : Kind) (x : St) → Ready x → Steady d → does d (held x) ≡ record { answer = valueOf d x; left = held (stepOf d x) }
+does-ready d x g s = does-is x (g .sound) d (ready-number x g d s)
 
 play-is : (ds : List Kind) (x : St) → Ready x → AllFit ds → play ds (held x) ≡ held (to ds x)
 play-is [] x g f = refl
 play-is (d ∷ ds) x g f =
-    ap (λ (e : Done). play ds (e .left)) (does-ready d x g) ∙ play-is ds (stepOf d x) (ready-step x g d (f .0)) (f .1)
+    ap (λ (e : Done). play ds (e .left)) (does-ready d x g (fit-steady d (f .0))) ∙ play-is ds (stepOf d x) (ready-step x g d (fit-steady d (f .0)) (fit-numbers d (f .0))) (f .1)
 
 answers-are : (ds : List Kind) (x : St) → Ready x → AllFit ds → answers ds (held x) ≡ values ds x
 answers-are [] x g f = refl
 answers-are (d ∷ ds) x g f =
-    ap (λ (e : Done). e .answer ∷ answers ds (e .left)) (does-ready d x g)
-    ∙ ap (λ (l : List ℕ). valueOf d x ∷ l) (answers-are ds (stepOf d x) (ready-step x g d (f .0)) (f .1))
+    ap (λ (e : Done). e .answer ∷ answers ds (e .left)) (does-ready d x g (fit-steady d (f .0)))
+    ∙ ap (λ (l : List ℕ). valueOf d x ∷ l) (answers-are ds (stepOf d x) (ready-step x g d (fit-steady d (f .0)) (fit-numbers d (f .0))) (f .1))
 
 grant-is : (d : Kind) (x : St) → Ready x → grantOf d (held x) ≡ grantAt d x
 grant-is (read a) x g = refl
 grant-is (write a v) x g = refl
-grant-is (cycle h n l p) x g = ap (λ (e : Done). e .answer) (does-ready (other (busAction h p n)) x g)
+grant-is (cycle h n l p) x g = ap (λ (e : Done). e .answer) (does-ready (other (busAction h p n)) x g tt)
 grant-is (other o) x g = refl
 
 grants-are : (ds : List Kind) (x : St) → Ready x → AllFit ds → grants ds (held x) ≡ grantsAt ds x
 grants-are [] x g f = refl
 grants-are (d ∷ ds) x g f =
-    (λ i. grant-is d x g i ∷ grants ds (does-ready d x g i .left))
-    ∙ ap (λ (l : List ℕ). grantAt d x ∷ l) (grants-are ds (stepOf d x) (ready-step x g d (f .0)) (f .1))
+    (λ i. grant-is d x g i ∷ grants ds (does-ready d x g (fit-steady d (f .0)) i .left))
+    ∙ ap (λ (l : List ℕ). grantAt d x ∷ l) (grants-are ds (stepOf d x) (ready-step x g d (fit-steady d (f .0)) (fit-numbers d (f .0))) (f .1))
 
 -- ---- what is looked at
 
@@ -100,7 +122,7 @@ elevenOf u =
 
 module _ (x : St) (g : Ready x) where
   shows-is : (r : ℕ) → shows (held x) r ≡ core-debugRegister (x .u) r
-  shows-is r = ap (λ (e : Done). e .answer) (does-ready (other (debugRegister r)) x g)
+  shows-is r = ap (λ (e : Done). e .answer) (does-ready (other (debugRegister r)) x g tt)
 
   eleven-is : eleven (held x) ≡ elevenOf (x .u)
   eleven-is =
@@ -118,13 +140,13 @@ fresh m s = record { u = newReu; m = m; s = s }
 abbrev start : List ℕ → List ℕ → St
 start m s = record { u = connected newReu; m = m; s = s }
 
-module _ (m s : List ℕ) (mem : Memories m s) where
-  ready-with : (u : Reu) → Sound u → Ready (record { u = u; m = m; s = s })
-  ready-with u h =
-      ready-of (record { u = u; m = m; s = s }) (record { sound = h; bus = mem .bus-bytes; storage = mem .storage-bytes }) (mem .bus-size) (mem .storage-size)
+module _ (m s : List ℕ) (mem : Memories newSize m s) where
+  ready-with : (u : Reu) → Sound u → u .size ≡ newSize → Ready (record { u = u; m = m; s = s })
+  ready-with u h z =
+      ready-of (record { u = u; m = m; s = s }) (record { sound = h; bus = mem .bus-bytes; storage = mem .storage-bytes }) (mem .bus-size) (mem .storage-size ∙ sym z)
 
   ready-fresh : Ready (fresh m s)
-  ready-fresh = ready-with newReu (sound-fresh false false)
+  ready-fresh = ready-with newReu sound-new refl
 
   fresh-answers : (ds : List Kind) → AllFit ds → answers ds (new m s) ≡ values ds (fresh m s)
   fresh-answers ds f = answers-are ds (fresh m s) ready-fresh f
@@ -134,11 +156,11 @@ module _ (m s : List ℕ) (mem : Memories m s) where
       ap (λ (h : Held). shows h r) (play-is ds (fresh m s) ready-fresh f) ∙ shows-is (to ds (fresh m s)) (ready-to ds (fresh m s) ready-fresh f) r
 
   ready-start : Ready (start m s)
-  ready-start = ready-with (connected newReu) (sound-fresh true true)
+  ready-start = ready-with (connected newReu) (sound-fresh true true newSize size-512) refl
 
   start-is : enabled m s ≡ held (start m s)
   unfolding core-setEnabled
-  start-is = λ i. record { image = does-ready (other (setEnabled 1)) (fresh m s) ready-fresh i .left .image; bus = m; storage = s }
+  start-is = λ i. record { image = does-ready (other (setEnabled 1)) (fresh m s) ready-fresh tt i .left .image; bus = m; storage = s }
 
   module _ (ds : List Kind) (f : AllFit ds) where
     played : run m s ds ≡ held (to ds (start m s))
@@ -176,7 +198,7 @@ module _ (m s : List ℕ) (mem : Memories m s) where
 
 -- whoever unfolds this unfolds all that a session computes
 calls-computed : Unit {0}
-unfolding runReuCycle counted cycleBy core-busAction nextAction decide fall fallOnRead fallOnSwapWrite plain fallOnWrite actionForCycle core-c64Access repeated core-tickDma tickOf tickRunning tickByType tickStore tickRecall tickSwap tickVerify tickTail swapRead swapWrite tickRefresh advance publishLiveCounters readRegister writeRegister writeCommand core-debugRegister startDma core-triggerFf00 requested typeOf lengthOf finishDma updateIrq
+unfolding lines trailingZeros runReuCycle counted cycleBy core-busAction nextAction decide fall fallOnRead fallOnSwapWrite plain fallOnWrite actionForCycle core-c64Access repeated core-tickDma tickOf tickRunning tickByType tickStore tickRecall tickSwap tickVerify tickTail swapRead swapWrite tickRefresh advance publishLiveCounters readRegister writeRegister writeCommand core-debugRegister startDma core-triggerFf00 requested typeOf lengthOf finishDma updateIrq
 calls-computed = tt
 
 -- two bytes stored, at the last place and at the first
@@ -206,7 +228,7 @@ module _ (m s : List ℕ) (ne : getD m 0 0 ≢ getD s 0 0) where
   two-compared : (equal : Bool) → eqb (getD m 1 0) (getD s 1 0) ≡ equal → to (begin 0 0 2 0x93 ++ ticks 2) (start m s) .u ≡ tailed equal
   unfolding calls-computed asked compared tailed
   two-compared equal e =
-      ap (λ (b : Bool). let t = compared 2 b in runReuCycle (counted (t .reu)) (putBus (t .put) m) (putStorage (t .put) s) true true 0 false .0 .reu)
+      ap (λ (b : Bool). let t = compared 2 b in runReuCycle (counted (t .reu)) (putBus (t .put) m) (putStorage newSize (t .put) s) true true 0 false .0 .reu)
       (ne-eqb (getD m 0 0) (getD s 0 0) ne) ∙ ap tailed e
 
 -- the swap that meets a late fall, on lists that have a first byte
@@ -217,7 +239,7 @@ late-fall [] s hm hs = absurd (omega arith)
 late-fall (c ∷ m) [] hm hs = absurd (omega arith)
 late-fall (c ∷ m) (r ∷ s) hm hs = (refl, refl)
 
-table : (m s : List ℕ) → Memories m s → Table m s
+table : (m s : List ℕ) → Memories newSize m s → Table m s
 unfolding calls-computed readCall asked compared tailed
 table m s mem =
     record {
@@ -232,7 +254,7 @@ table m s mem =
       R5 = eleven-of m s mem r5 (omega arith);
       R5-bank = (
         ap (λ (h : Held). does (read 6) h .answer) (played m s mem r5 (omega arith))
-            ∙ ap (λ (d : Done). d .answer) (does-ready (read 6) (to r5 (start m s)) (ready-played m s mem r5 (omega arith))),
+            ∙ ap (λ (d : Done). d .answer) (does-ready (read 6) (to r5 (start m s)) (ready-played m s mem r5 (omega arith)) tt),
         shows-of m s mem r5 (omega arith) 6,
       );
       R6 = λ ne. eleven-of m s mem (begin 0 0 3 0x93 ++ ticks 1) (omega arith) ∙ ap elevenOf (one-differs m s ne);
@@ -277,7 +299,7 @@ sessions = table
 
 -- ---- the count of granted cycles
 
-pub scripts : (m s : List ℕ) → Memories m s → Counted m s
+pub scripts : (m s : List ℕ) → Memories newSize m s → Counted m s
 unfolding calls-computed core-setEnabled
 scripts m s mem =
     record {

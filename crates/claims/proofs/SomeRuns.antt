@@ -13,7 +13,10 @@ use Rattle.transfer.specs.declared.timing.ReuBusAction.{ReuBusAction}
 use Rattle.transfer.specs.declared.dma.Dma.the-variants.{Idle}
 use Rattle.controller.specs.Reu.{reg}
 use Rattle.controller.specs.Registers.{readRegister, writeRegister}
-use Rattle.controller.specs.Enable.{newReu, connected}
+use Rattle.controller.specs.declared.reu.Reu.{Reu}
+use Rattle.controller.specs.Enable.{newReu, setSize as core-setSize, connected}
+use Rattle.transfer.specs.Memory.{isSize}
+use Rattle.image.proofs.Sound.{Sound, with-dma}
 use Rattle.controller.specs.Cycle.{runReuCycle}
 use Rattle.transfer.specs.Timing.{actionNumber}
 use Rattle.image.specs.declared.Opened.{Opened}
@@ -26,26 +29,35 @@ use Rattle.reu.specs.Exports.{refusalUnit}
 use Rattle.claims.specs.Calls.{Held, Memories, Kind, read, write, cycle, NumbersFit, grantOf, Call, Fits, leaves, accepts, next, after, Each, All, count}
 use Rattle.claims.specs.SwapTwice.{byte, IsIdle, Start, Step, cycles, reads, writes, AnyStep, NoWrite, register, writesTo, wrote, High, Run, OfBlock, swaps, Rewrites, Ended, OnceEnded, Parts, listOf, atRestart, RunA, RunB}
 use Rattle.claims.proofs.RegisterLaw.{Value, Seven, two, three, four, five, six, seven, eight, is-seven}
-use Rattle.image.proofs.SoundCalls.{sound-fresh}
+use Rattle.image.proofs.SoundCalls.{sound-new, sound-size}
 use Rattle.image.proofs.Valid.{sound-bytes, sound-well, sound-typed}
-use Rattle.claims.proofs.States.{St, held, on, stepOf, valueOf, Ready, ready-step}
-use Rattle.claims.proofs.Accepted.{leaves-is, is-accepted, ready-number}
+use Rattle.claims.proofs.States.{St, held, on, stepOf, valueOf, Steady, Ready}
+use Rattle.claims.proofs.Accepted.{leaves-is, is-accepted, ready-number, ready-step}
 use Rattle.controller.proofs.Checked.{step-most}
 use Rattle.claims.proofs.Walk.{widen, written-at, next-is}
-use Rattle.claims.proofs.Look.{present-byte, debug-value, Idling, opened, opened-ready, opened-is, opened-idling}
+use Rattle.claims.proofs.Look.{size-byte, present-byte, debug-value, Idling, opened, opened-ready, opened-is, opened-idling}
 use Rattle.claims.proofs.Swap.{Allowed, idle-high, granted-bit, len-of, SwapFrom, over-from, ended-from, granted-from, step-from, begins}
 
 -- ---- a start
 
-pub some-start : (m s : List ℕ) → Memories m s → Start (record { image = packImage (connected newReu); bus = m; storage = s })
-unfolding packImage
-some-start m s mem =
+-- a new controller with a size that is set, enabled
+enabled-new : ℕ → Reu
+enabled-new size = connected (core-setSize newReu size)
+
+enabled-sound : (size : ℕ) → isSize size ≡ true → Sound (enabled-new size)
+unfolding enabled-new core-setSize
+enabled-sound size h = with-dma (sound-size newReu size sound-new h) tt
+
+pub some-start : (size : ℕ) → isSize size ≡ true → (m s : List ℕ) → Memories size m s
+    → Start (record { image = packImage (connected (core-setSize newReu size)); bus = m; storage = s })
+unfolding packImage core-setSize enabled-new
+some-start size h m s mem =
+    let u = enabled-new size in
+    let sound = enabled-sound size h in
     record {
-      memories = mem;
-      image-bytes = sound-bytes (connected newReu) (sound-fresh true true);
-      accepted =
-          ap (λ (o : Opened). o .refusal)
-          (open-pack (connected newReu) (sound-typed (connected newReu) (sound-fresh true true)) (sound-well (connected newReu) (sound-fresh true true)));
+      memories = subst (λ (n : ℕ). Memories n m s) (sym (size-byte (record { u = u; m = m; s = s }) sound)) mem;
+      image-bytes = sound-bytes u sound;
+      accepted = ap (λ (o : Opened). o .refusal) (open-pack u (sound-typed u sound) (sound-well u sound));
       exp-unfixed = refl;
       c64-unfixed = refl;
       attached = refl;
@@ -59,6 +71,7 @@ some-start m s mem =
 record Plain (x : St) (d : Kind) : Type 0 where
   small : valueOf d x < refusalUnit
   numbers : NumbersFit d
+  steady : Steady d
   high : High d
   kind : AnyStep d
 
@@ -75,32 +88,32 @@ relax f done = done
 relax f (more {x = x} {d = d} o p t) = more o (f x d p) (relax f t)
 
 accepted : (x : St) (d : Kind) → Ready x → Plain x d → accepts (on x d) ≡ true
-accepted x d g o = is-accepted x (g .sound) d (ready-number x g d) (o .small)
+accepted x d g o = is-accepted x (g .sound) d (ready-number x g d (o .steady)) (o .small)
 
 next-on : (x : St) (d : Kind) → Ready x → Plain x d → next (held x) (on x d) ≡ held (stepOf d x)
 next-on x d g o = next-is x (on x d) (g .sound) (accepted x d g o) refl
 
 trace-ready : {P : St → Kind → Type 0} {x y : St} {cs : List Call} → Trace P x cs y → Ready x → Ready y
 trace-ready done g = g
-trace-ready (more {x = x} {d = d} o p t) g = trace-ready t (ready-step x g d (o .numbers))
+trace-ready (more {x = x} {d = d} o p t) g = trace-ready t (ready-step x g d (o .steady) (o .numbers))
 
 trace-after : {P : St → Kind → Type 0} {x y : St} {cs : List Call} → Trace P x cs y → Ready x → after (held x) cs ≡ held y
 trace-after done g = refl
 trace-after (more {x = x} {d = d} {cs = cs} o p t) g =
-    ap (λ (k : Held). after k cs) (next-on x d g o) ∙ trace-after t (ready-step x g d (o .numbers))
+    ap (λ (k : Held). after k cs) (next-on x d g o) ∙ trace-after t (ready-step x g d (o .steady) (o .numbers))
 
 trace-each : {P : St → Kind → Type 0} (Q : Held → Call → Type 0) → ((z : St) (d : Kind) → Plain z d → P z d → Q (held z) (on z d))
     → {x y : St} {cs : List Call} → Trace P x cs y → Ready x → Each Q (held x) cs
 trace-each Q f done g = tt
 trace-each Q f (more {x = x} {d = d} {cs = cs} o p t) g = (
   (λ e. f x d o p),
-  subst (λ (k : Held). Each Q k cs) (sym (next-on x d g o)) (trace-each Q f t (ready-step x g d (o .numbers))),
+  subst (λ (k : Held). Each Q k cs) (sym (next-on x d g o)) (trace-each Q f t (ready-step x g d (o .steady) (o .numbers))),
 )
 
 trace-all : {P : St → Kind → Type 0} (Q : Call → Type 0) → ((z : St) (d : Kind) → Ready z → Plain z d → Q (on z d))
     → {x y : St} {cs : List Call} → Trace P x cs y → Ready x → All Q cs
 trace-all Q f done g = tt
-trace-all Q f (more {x = x} {d = d} o p t) g = (f x d g o, trace-all Q f t (ready-step x g d (o .numbers)))
+trace-all Q f (more {x = x} {d = d} o p t) g = (f x d g o, trace-all Q f t (ready-step x g d (o .steady) (o .numbers)))
 
 trace-run : {P : St → Kind → Type 0} {x y : St} {cs : List Call} → Trace P x cs y → Ready x → Run (held x) cs
 trace-run t g =
@@ -126,12 +139,13 @@ plain-cycle x =
     record {
       small = let r = runReuCycle (x .u) (x .m) (x .s) true true 0 false .0 in omega (arith, step-most (r .flag) (r .passed));
       numbers = (omega arith, omega arith, omega arith, omega arith);
+      steady = tt;
       high = (omega arith, omega arith);
       kind = cycles;
     }
 
 plain-write : (x : St) (r v : ℕ) → r < 65536 → v < 256 → Plain x (write r v)
-plain-write x r v hr hv = record { small = omega arith; numbers = (hr, hv); high = tt; kind = writes tt }
+plain-write x r v hr hv = record { small = omega arith; numbers = (hr, hv); steady = tt; high = tt; kind = writes tt }
 
 -- j cycles, and one write to each register of a list, of the value that W has
 cycles-from : ℕ → St → List Call
@@ -198,7 +212,7 @@ unfolding writes-from
 writes-count W small [] al r x g = refl
 writes-count W small (q ∷ rs) al r x g =
     let o = plain-write x q (W q) (omega arith) (small q) in
-    let h = writes-count W small rs (al .1) r (stepOf (write q (W q)) x) (ready-step x g (write q (W q)) (o .numbers)) in
+    let h = writes-count W small rs (al .1) r (stepOf (write q (W q)) x) (ready-step x g (write q (W q)) (o .steady) (o .numbers)) in
     let same : register q ≡ q = omega arith in
     let one : bitOf (wrote r (on x (write q (W q)))) ≡ bitOf (eqb q r)
     = written-at r (on x (write q (W q))) (accepted x (write q (W q)) g o) ∙ ap (λ (i : ℕ). bitOf (eqb i r)) same in
@@ -230,7 +244,7 @@ module _ (x : St) (ready : Ready x) (idl : Idling x) where
   x₂ = stepOf swap x
 
   ready₂ : Ready x₂
-  ready₂ = ready-step x ready swap (plain-swap .numbers)
+  ready₂ = ready-step x ready swap (plain-swap .steady) (plain-swap .numbers)
 
   begun : next (held x) (on x swap) ≡ held x₂
   begun = next-on x swap ready plain-swap
@@ -239,9 +253,9 @@ module _ (x : St) (ready : Ready x) (idl : Idling x) where
   swap-cycle k g y gy pr lt =
       let o = plain-cycle y in
       let gr : bitOf (eqb (grantOf high-cycle (held y)) 2) ≡ 1
-      = granted-bit y (gy .sound) 1 0 0 1 (ready-number y gy high-cycle) ∙ ap (λ (q : ReuBusAction). bitOf (eqb (actionNumber q) 2)) (granted-from x ready k g y 0 (gy .sound) pr lt) in
+      = granted-bit y (gy .sound) 1 0 0 1 (ready-number y gy high-cycle tt) ∙ ap (λ (q : ReuBusAction). bitOf (eqb (actionNumber q) 2)) (granted-from x ready k g y 0 (gy .sound) pr lt) in
       subst₂ (λ (q : ℕ) (f : ℕ → ℕ). SwapFrom x ready q f (stepOf high-cycle y)) (omega arith) (fun-ext (λ r. zero-add (g r)))
-      (step-from x ready k g y high-cycle (gy .sound) (ready-number y gy high-cycle) (o .numbers) (o .high, cycles) pr)
+      (step-from x ready k g y high-cycle (gy .sound) (ready-number y gy high-cycle tt) (o .numbers) (o .high, cycles) pr)
 
   cycles-trace : (j k : ℕ) (g : ℕ → ℕ) (y : St) → Ready y → SwapFrom x ready k g y → j + k ≤ 2 * n
       → Trace OnlyCycles y (cycles-from j y) (cycles-end j y) × SwapFrom x ready (j + k) g (cycles-end j y)
@@ -249,7 +263,7 @@ module _ (x : St) (ready : Ready x) (idl : Idling x) where
   cycles-trace zero k g y gy pr h = (done, subst (λ (q : ℕ). SwapFrom x ready q g y) (sym (zero-add k)) pr)
   cycles-trace (suc j) k g y gy pr h =
       let o = plain-cycle y in
-      let rest = cycles-trace j (suc k) g (stepOf high-cycle y) (ready-step y gy high-cycle (o .numbers)) (swap-cycle k g y gy pr (omega arith)) (omega arith) in
+      let rest = cycles-trace j (suc k) g (stepOf high-cycle y) (ready-step y gy high-cycle (o .steady) (o .numbers)) (swap-cycle k g y gy pr (omega arith)) (omega arith) in
       (more o cycles (rest .0), subst (λ (q : ℕ). SwapFrom x ready q g (cycles-end j (stepOf high-cycle y))) (omega arith) (rest .1))
 
   -- once it is over
@@ -265,8 +279,8 @@ module _ (x : St) (ready : Ready x) (idl : Idling x) where
       let allowed : Allowed W r (W r) = (omega arith, subst (λ (q : ℕ). Value W q (W r)) (sym same) (refl, λ ne. refl)) in
       let shown : Rewrites (held x) r (W r)
       = (omega arith, inr (sym (debug-value x (ready .sound) r (omega arith)) ∙ ap (reuDebugRegister (held x .image)) (sym same))) in
-      let next-pr = step-from x ready k g y d (gy .sound) (ready-number y gy d) (o .numbers) (tt, writes (ended, allowed)) pr in
-      let rest = writes-trace rs (al .1) k (λ i. bitOf (writesTo i d) + g i) (stepOf d y) (ready-step y gy d (o .numbers))
+      let next-pr = step-from x ready k g y d (gy .sound) (ready-number y gy d tt) (o .numbers) (tt, writes (ended, allowed)) pr in
+      let rest = writes-trace rs (al .1) k (λ i. bitOf (writesTo i d) + g i) (stepOf d y) (ready-step y gy d (o .steady) (o .numbers))
       (subst (λ (q : ℕ). SwapFrom x ready q (λ i. bitOf (writesTo i d) + g i) (stepOf d y)) (zero-add k) next-pr) all in
       (more o (writes (ended, shown)) (rest .0), rest .1)
 
@@ -381,18 +395,18 @@ some-a k st =
 
 stays : (x : St) (d : Kind) → Ready x → Plain x d → stepOf d x .u .dma ≡ Idle → IsIdle (leaves (on x d))
 stays x d g o e =
-    ap (λ (h : Held). byte h transferByte) (leaves-is x (g .sound) d (ready-number x g d)) ∙ present-byte (stepOf d x) (ready-step x g d (o .numbers) .sound) ∙ ap present e
+    ap (λ (h : Held). byte h transferByte) (leaves-is x (g .sound) d (ready-number x g d (o .steady))) ∙ present-byte (stepOf d x) (ready-step x g d (o .steady) (o .numbers) .sound) ∙ ap present e
 
 module _ (x : St) (ready : Ready x) (idle : x .u .dma ≡ Idle) where
   first : Plain x (read 0)
   unfolding readRegister
-  first = let b : reg (x .u) 0 < 256 = ready .sound .regs .fits 0 .byte in record { small = omega arith; numbers = omega arith; high = tt; kind = reads tt }
+  first = let b : reg (x .u) 0 < 256 = ready .sound .regs .fits 0 .byte in record { small = omega arith; numbers = omega arith; steady = tt; high = tt; kind = reads tt }
 
   abbrev b₁ : St
   b₁ = stepOf (read 0) x
 
   ready-1 : Ready b₁
-  ready-1 = ready-step x ready (read 0) (first .numbers)
+  ready-1 = ready-step x ready (read 0) (first .steady) (first .numbers)
 
   idle-1 : b₁ .u .dma ≡ Idle
   unfolding readRegister
@@ -405,7 +419,7 @@ module _ (x : St) (ready : Ready x) (idle : x .u .dma ≡ Idle) where
   b₂ = stepOf (write 2 0) b₁
 
   ready-2 : Ready b₂
-  ready-2 = ready-step b₁ ready-1 (write 2 0) (second .numbers)
+  ready-2 = ready-step b₁ ready-1 (write 2 0) (second .steady) (second .numbers)
 
   idle-2 : b₂ .u .dma ≡ Idle
   unfolding writeRegister

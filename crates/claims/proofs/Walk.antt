@@ -116,11 +116,12 @@ module _ (I : ℕ → (ℕ → ℕ) → St → Type 0) (P : Held → Call → Ty
   branch x c cs k g good i at true ok rec =
       let a = at .0 ok in
       let nx : next (held x) c ≡ held (stepOf (c .kind) x) = next-is x c (good .sound) ok (a .lent) in
+      let z = number-at x c (good .sound) ok (a .lent) in
       let holds : P (held x) (on x (c .kind))
       = subst (λ (h : Held). P (held x) (record { kind = c .kind; lent = h })) (a .lent) (a .holds) in
       before x (stepOf (c .kind) x) c cs k (bitOf (eqb (grantOf (c .kind) (held x)) 2)) g (λ r. bitOf (writesTo r (c .kind))) nx
       (granted-at x c ok (a .lent)) (λ r. written-at r c ok)
-      (rec (stepOf (c .kind) x) _ _ (good-step x good (c .kind) (a .numbers)) (step k g x (c .kind) good (number-at x c (good .sound) ok (a .lent)) (a .numbers) holds i)
+      (rec (stepOf (c .kind) x) _ _ (good-step x good (c .kind) z (a .numbers)) (step k g x (c .kind) good z (a .numbers) holds i)
       (subst (λ (h : Held). Each (At P) h cs) nx (at .1)))
   branch x c cs k g good i at false e rec =
       let nx : next (held x) c ≡ held x = ap (λ (b : Bool). cond b (leaves c) (held x)) e in

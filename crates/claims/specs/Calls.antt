@@ -1,4 +1,4 @@
--- The fifteen exported calls, and lists of them. What a call answers and leaves is what the exported contracts cite.
+-- The sixteen exported calls, and lists of them. What a call answers and leaves is what the exported contracts cite.
 use Prim.Native.Nat.{ℕ, _+_, _^_, _<_}
 use mathlib.Core.Bool.{Bool, true, cond}
 use mathlib.Core.Path.{_≡_}
@@ -8,8 +8,8 @@ use lib.Dec.{ltb}
 use Rattle.transfer.specs.declared.timing.ReuBusAction.the-variants.{Cpu}
 use Rattle.transfer.specs.Timing.{actionNumber}
 use Rattle.image.specs.Valid.{Bytes}
-use Rattle.reu.specs.Exports.{reuNew, reuReset, reuSetEnabled, reuStoragePresent, reuCapacityBytes, reuTriggerFf00, reuRead, reuWrite, reuDmaActive, reuBusAction, reuCpuReady, reuDebugRegister, reuC64Access, reuTickDma, reuCycle}
-use Rattle.transfer.specs.Constants.{busSize, storageSize}
+use Rattle.reu.specs.Exports.{reuNew, reuReset, reuSetSize, reuSetEnabled, reuStoragePresent, reuCapacityBytes, reuTriggerFf00, reuRead, reuWrite, reuDmaActive, reuBusAction, reuCpuReady, reuDebugRegister, reuC64Access, reuTickDma, reuCycle}
+use Rattle.transfer.specs.Constants.{busSize}
 use Rattle.reu.specs.Exports.{refusalUnit}
 
 -- ---- one call
@@ -20,17 +20,18 @@ pub record Held : Type 0 where
   pub bus : List ℕ
   pub storage : List ℕ
 
--- a bus and a storage that no call refuses
-pub record Memories (bus storage : List ℕ) : Type 0 where
+-- a bus and a storage that no call refuses where this size is set
+pub record Memories (size : ℕ) (bus storage : List ℕ) : Type 0 where
   pub bus-bytes : Bytes bus
   pub storage-bytes : Bytes storage
   pub bus-size : length bus ≡ busSize
-  pub storage-size : length storage ≡ storageSize
+  pub storage-size : length storage ≡ size
 
--- which call, with its numbers: the three that demand 3 speaks of, and the other twelve
+-- which call, with its numbers: the three that demand 3 speaks of, and the other thirteen
 pub data Other : Type 0 where
   new : Other
   reset : (hard : ℕ) → Other
+  setSize : (size : ℕ) → Other
   setEnabled : (enabled : ℕ) → Other
   storagePresent : Other
   capacityBytes : Other
@@ -48,7 +49,7 @@ pub data Kind : Type 0 where
   cycle : (high number low phi1 : ℕ) → Kind
   other : Other → Kind
 
--- every number fits the argument that it is passed as; the other twelve may be passed any
+-- every number fits the argument that it is passed as; the other thirteen may be passed any
 abbrev pub Bits : ℕ → ℕ → Type 0
 Bits size n = n < 2 ^ size
 
@@ -79,6 +80,7 @@ onBoth y = record { answer = y .0; left = record { image = y .1; bus = y .2; sto
 abbrev pub doesOther : Other → Held → Done
 doesOther new h = onImage h (reuNew (h .image))
 doesOther (reset hard) h = onImage h (reuReset (h .image) hard)
+doesOther (setSize size) h = onImage h (reuSetSize (h .image) size)
 doesOther (setEnabled enabled) h = onStorage h (reuSetEnabled (h .image) (h .storage) enabled)
 doesOther storagePresent h = looked h (reuStoragePresent (h .image))
 doesOther capacityBytes h = looked h (reuCapacityBytes (h .image))

@@ -6,14 +6,14 @@ use mathlib.Core.Path.{_≡_}
 use mathlib.Core.List.{List, [], _∷_, _++_}
 use lib.Dec.{eqb}
 use Rattle.transfer.specs.Bytes.{bit, word}
-use Rattle.transfer.specs.Constants.{command, withoutFf00, execute}
+use Rattle.transfer.specs.Constants.{newSize, command, withoutFf00, execute}
 use Rattle.controller.specs.Enable.{newReu}
 use Rattle.controller.specs.Cycle.{mostGranted, capped}
 use Rattle.image.specs.Layout.{packImage}
 use Rattle.image.specs.Open.{openImage}
 use Rattle.image.specs.Valid.{Bytes}
 use Rattle.claims.specs.Constants.{flagsByte, countByte}
-use Rattle.claims.specs.Calls.{Held, Memories, Other, new, reset, setEnabled, storagePresent, capacityBytes, triggerFf00, dmaActive, busAction, cpuReady, debugRegister, c64Access, tickDma, Kind, read, write, cycle, other, Call, accepts, after, count}
+use Rattle.claims.specs.Calls.{Held, Memories, Other, new, reset, setSize, setEnabled, storagePresent, capacityBytes, triggerFf00, dmaActive, busAction, cpuReady, debugRegister, c64Access, tickDma, Kind, read, write, cycle, other, Call, accepts, after, count}
 use Rattle.claims.specs.SwapTwice.{byte, register, granted}
 use Rattle.claims.specs.SavedMachine.{OnOneImage}
 use Rattle.claims.specs.Sessions.{begin, r4, r16, run}
@@ -31,6 +31,7 @@ hasStorage h = bit (byte h flagsByte) 2
 abbrev pub zeroesOther : Other → Held → Bool
 zeroesOther new h = true
 zeroesOther (reset hard) h = true
+zeroesOther (setSize size) h = false
 zeroesOther (setEnabled enabled) h = false
 zeroesOther storagePresent h = false
 zeroesOther capacityBytes h = false
@@ -75,7 +76,7 @@ pub record Counted (m s : List ℕ) : Type 0 where
   -- "direct ticks don't add to it"
   pub ticked : number (run m s (begin 0 0 1 0x90 ++ (other (tickDma 0 0) ∷ []))) ≡ 0
 
--- of any of the fifteen calls, refused ones included, made one after another on one image
+-- of any of the sixteen calls, refused ones included, made one after another on one image
 pub record GrantedCycles : Type 0 where
   -- "it equals the count of such calls since the last of these", and it is "held at 4,294,967,295"
   pub counts :
@@ -96,4 +97,4 @@ pub record GrantedCycles : Type 0 where
   pub stays :
       (k : Held) (calls : List Call) → Bytes (k .image) → openImage (k .image) .refusal ≡ 0 → OnOneImage k calls
       → count zeroes calls ≡ 0 → number k ≡ mostGranted → number (after k calls) ≡ mostGranted
-  pub some : (m s : List ℕ) → Memories m s → Counted m s
+  pub some : (m s : List ℕ) → Memories newSize m s → Counted m s

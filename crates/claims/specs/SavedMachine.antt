@@ -31,7 +31,7 @@ pub record OnOneImage (k : Held) (calls : List Call) : Type 0 where
   pub lent : Each (λ h c. c .lent .image ≡ h .image) k calls
   pub fits : All Fits calls
 
--- of any of the fifteen calls, refused ones included
+-- of any of the sixteen calls, refused ones included
 pub record EveryStateOpens : Type 0 where
   -- an accepted call on an accepted image leaves an accepted image
   pub stays :

@@ -12,7 +12,7 @@ use Rattle.transfer.specs.Timing.{actionNumber}
 use Rattle.image.specs.Layout.{packImage}
 use Rattle.transfer.specs.Bytes.{bit}
 use Rattle.reu.specs.Exports.{reuDebugRegister}
-use Rattle.transfer.specs.Constants.{status, command, c64Low, c64High, expLow, expHigh, expBank, lengthLow, lengthHigh, interruptMask}
+use Rattle.transfer.specs.Constants.{newSize, status, command, c64Low, c64High, expLow, expHigh, expBank, lengthLow, lengthHigh, interruptMask}
 use Rattle.claims.specs.Constants.{flagsByte}
 use Rattle.claims.specs.Calls.{Held, Memories, setEnabled, triggerFf00, Kind, read, write, cycle, other, does, grantOf}
 
@@ -156,4 +156,4 @@ module _ (m s : List ℕ) where
     pub R16-bytes : (run (begin 0 0 1 0x92 ++ r16) .bus ≡ m) × (run (begin 0 0 1 0x92 ++ r16) .storage ≡ set s 0 (getD m 0 0))
 
 abbrev pub Sessions : Type 0
-Sessions = (m s : List ℕ) → Memories m s → Table m s
+Sessions = (m s : List ℕ) → Memories newSize m s → Table m s

@@ -1,6 +1,6 @@
 -- Demand 3: a block swapped twice is back, and a run that stays idle ends with the same bytes. Quotations are the order's and
 -- document 01's words.
-use Prim.Native.Nat.{ℕ, _+_, _*_, _%_, _<_, _≤_}
+use Prim.Native.Nat.{ℕ, _+_, _*_, _/_, _%_, _<_, _≤_}
 use mathlib.Core.Bool.{Bool, true, false, cond, _&&_}
 use mathlib.Core.Logic.{_≢_, _⊎_, _↔_}
 use mathlib.Core.Path.{_≡_}
@@ -8,15 +8,16 @@ use mathlib.Core.List.{List, [], _∷_, _++_, map}
 use lib.ListN.{length, getD}
 use lib.Dec.{eqb}
 use Rattle.transfer.specs.declared.timing.ReuBusAction.the-variants.{Transfer}
-use Rattle.controller.specs.Enable.{newReu, connected}
+use Rattle.controller.specs.Enable.{newReu, setSize, connected}
 use Rattle.transfer.specs.Timing.{actionNumber}
-use Rattle.image.specs.Layout.{packImage}
+use Rattle.transfer.specs.Memory.{isSize, physicalOffset}
+use Rattle.image.specs.Layout.{sizeOf, packImage}
 use Rattle.transfer.specs.Bytes.{bit, word, long}
 use Rattle.image.specs.Open.{openImage}
 use Rattle.image.specs.Valid.{Bytes}
 use Rattle.reu.specs.Exports.{reuRead, reuDebugRegister}
-use Rattle.transfer.specs.Constants.{busSize, storageSize, fullLength, status, command, c64Low, c64High, expLow, expHigh, expBank, lengthLow, lengthHigh, addressControl}
-use Rattle.claims.specs.Constants.{registerWindow, flagsByte, transferByte}
+use Rattle.transfer.specs.Constants.{busSize, fullLength, status, command, c64Low, c64High, expLow, expHigh, expBank, lengthLow, lengthHigh, addressControl}
+use Rattle.claims.specs.Constants.{registerWindow, flagsByte, moreFlagsByte, transferByte}
 use Rattle.claims.specs.Calls.{Held, Memories, Kind, read, write, cycle, other, grantOf, Call, leaves, accepts, next, after, Each, All, count, Threaded}
 
 -- ---- the start of a run
@@ -25,13 +26,18 @@ use Rattle.claims.specs.Calls.{Held, Memories, Kind, read, write, cycle,
 abbrev pub byte : Held → ℕ → ℕ
 byte k i = getD (k .image) i 0
 
+-- L4: the size that an image sets, by "byte 19 bits 2-3"
+abbrev pub sizeSet : Held → ℕ
+sizeSet k = sizeOf (byte k moreFlagsByte / 4)
+
 -- no transfer
 abbrev pub IsIdle : Held → Type 0
 IsIdle k = byte k transferByte ≡ 0
 
--- "any accepted image that is unfixed, attached, unarmed and idle by bytes 10, 18 and 21", with a bus and a storage
+-- "any accepted image that is unfixed, attached, unarmed and idle by bytes 10, 18 and 21", with a bus and a storage of
+-- the size that is set
 pub record Start (k : Held) : Type 0 where
-  pub memories : Memories (k .bus) (k .storage)
+  pub memories : Memories (sizeSet k) (k .bus) (k .storage)
   pub image-bytes : Bytes (k .image)
   pub accepted : openImage (k .image) .refusal ≡ 0
   pub exp-unfixed : bit (byte k addressControl) 6 ≡ false
@@ -98,12 +104,13 @@ Shown k r v = (v ≡ reuRead (k .image) r .0) ⊎ (v ≡ reuDebugRegister (k .im
 abbrev pub ShownAll : Held → (ℕ → ℕ) → Type 0
 ShownAll k w = (r : ℕ) → OfBlock r → Shown k r (w r)
 
--- "byte i, below n, is at C64 address plus i modulo 65,536, its partner at the offset of expansion address plus i"
+-- "byte i, below n, is at C64 address plus i modulo 65,536, its partner at the offset of expansion address plus i", which
+-- folds by the size set
 abbrev pub busPlace : (ℕ → ℕ) → ℕ → ℕ
 busPlace w i = (word (w c64Low) (w c64High) + i) % busSize
 
-abbrev pub storagePlace : (ℕ → ℕ) → ℕ → ℕ
-storagePlace w i = (long (w expLow) (w expHigh) (w expBank) + i) % storageSize
+abbrev pub storagePlace : ℕ → (ℕ → ℕ) → ℕ → ℕ
+storagePlace size w i = physicalOffset size (record { 0 = long (w expLow) (w expHigh) (w expBank) + i }) .0
 
 -- "n the length, 65,536 for length 0"
 abbrev pub blockLength : (ℕ → ℕ) → ℕ
@@ -111,11 +118,11 @@ blockLength w = let n = word (w lengthLow) (w lengthHigh) in cond (eqb n 0) full
 
 -- from a to b "each byte of the block has changed places with its partner, .. and no other byte has changed"
 pub record Exchanged (w : ℕ → ℕ) (a b : Held) : Type 0 where
-  pub to-bus : (i : ℕ) → i < blockLength w → getD (b .bus) (busPlace w i) 0 ≡ getD (a .storage) (storagePlace w i) 0
-  pub to-storage : (i : ℕ) → i < blockLength w → getD (b .storage) (storagePlace w i) 0 ≡ getD (a .bus) (busPlace w i) 0
+  pub to-bus : (i : ℕ) → i < blockLength w → getD (b .bus) (busPlace w i) 0 ≡ getD (a .storage) (storagePlace (sizeSet a) w i) 0
+  pub to-storage : (i : ℕ) → i < blockLength w → getD (b .storage) (storagePlace (sizeSet a) w i) 0 ≡ getD (a .bus) (busPlace w i) 0
   pub other-bus : (j : ℕ) → ((i : ℕ) → i < blockLength w → j ≢ busPlace w i) → getD (b .bus) j 0 ≡ getD (a .bus) j 0
   pub other-storage :
-      (j : ℕ) → ((i : ℕ) → i < blockLength w → j ≢ storagePlace w i) → getD (b .storage) j 0 ≡ getD (a .storage) j 0
+      (j : ℕ) → ((i : ℕ) → i < blockLength w → j ≢ storagePlace (sizeSet a) w i) → getD (b .storage) j 0 ≡ getD (a .storage) j 0
   pub bus-size : length (b .bus) ≡ length (a .bus)
   pub storage-size : length (b .storage) ≡ length (a .storage)
 
@@ -204,8 +211,10 @@ pub record SwapTwice : Type 0 where
   pub runs :
       (a b : Held) (p : Parts) (calls : List Call) → Start a → Start b → a .bus ≡ b .bus → a .storage ≡ b .storage
       → RunA a p → RunB b calls → (w : ℕ → ℕ) → ShownAll (atStart a p) w → Outcome w a p b calls
-  -- there are such starts: a new controller, enabled, with any bus and storage
-  pub some-start : (m s : List ℕ) → Memories m s → Start (record { image = packImage (connected newReu); bus = m; storage = s })
+  -- there are such starts of each size: a new controller with that size, enabled, with any bus and storage
+  pub some-start :
+      (size : ℕ) → isSize size ≡ true → (m s : List ℕ) → Memories size m s
+      → Start (record { image = packImage (connected (setSize newReu size)); bus = m; storage = s })
   -- "from each such start there are lists of both kinds", B's with an accepted read, write and cycle
   pub some-a : (k : Held) → Start k → (p : Parts) × RunA k p
   pub some-b :

@@ -31,6 +31,9 @@ module _ (s : List ℕ) (long : length s ≡ imageSize) where
   pub flags-byte : at (lifted fields s) flags ≡ at s (placeOf flags)
   flags-byte = ap (λ (l : List ℕ). at (lifted fields l) flags) (sym listed)
 
+  pub more-byte : at (lifted fields s) moreFlags ≡ at s (placeOf moreFlags)
+  more-byte = ap (λ (l : List ℕ). at (lifted fields l) moreFlags) (sym listed)
+
   pub registers-are : take registerCount (lifted fields s) ≡ take registerCount s
   registers-are = ap (λ (l : List ℕ). take registerCount (lifted fields l)) (sym listed) ∙ gets-slice s 0 registerCount (omega arith)
 

@@ -1,4 +1,5 @@
--- What a call does to the count of granted cycles: a cycle that is granted adds one, a start that has storage zeroes it, and nothing else changes it.
+-- What a call does to the count of granted cycles and to the size: a cycle that is granted adds one, a start that has storage zeroes the count,
+-- and nothing else changes either; new and set_size, which do, are not here.
 use Prim.Native.Nat.{ℕ, _+_, _%_}
 use mathlib.Core.Bool.{Bool, true, false, cond, not, _&&_, _||_}
 use mathlib.Core.Path.{_≡_, refl, ap, _∙_}
@@ -35,32 +36,39 @@ use Rattle.controller.specs.BusAction.{busAction, nextAction, decide, fall, fal
 use Rattle.controller.specs.TickDma.{tickDma, tickOf, tickRunning, tickByType, tickStore, tickRecall, tickSwap, tickVerify, tickTail, swapRead, swapWrite, tickRefresh, advance, differs, withError}
 use Rattle.controller.specs.Cycle.{runReuCycle, capped, counted, cycleBy}
 
--- the count, of a controller and of an answer that carries one
-abbrev of : Reu → ℕ
-of u = u .«granted_cycles»
+-- the count and the size, of a controller and of an answer that carries one
+abbrev pub Numbers : Type 0
+Numbers = ℕ × ℕ
 
-abbrev ofRead : ReadAnswer → ℕ
+abbrev pub of : Reu → Numbers
+of u = (u .«granted_cycles», u .size)
+
+abbrev ofRead : ReadAnswer → Numbers
 ofRead a = of (a .reu)
 
-abbrev ofGrant : BusAnswer → ℕ
+abbrev ofGrant : BusAnswer → Numbers
 ofGrant a = of (a .reu)
 
-abbrev ofTick : TickAnswer → ℕ
+abbrev ofTick : TickAnswer → Numbers
 ofTick t = of (t .reu)
 
--- the count is n: a record, so that a chain of choices is compared choice by choice
-record Keeps {A : Type 0} (f : A → ℕ) (n : ℕ) (x : A) : Type 0 where
+-- another count
+abbrev with : (ℕ → ℕ) → Numbers → Numbers
+with f p = (f (p .0), p .1)
+
+-- they are n: a record, so that a chain of choices is compared choice by choice
+record Keeps {A : Type 0} (f : A → Numbers) (n : Numbers) (x : A) : Type 0 where
   same : f x ≡ n
 
-kept : {A : Type 0} {f : A → ℕ} {n : ℕ} {x : A} → f x ≡ n → Keeps f n x
+kept : {A : Type 0} {f : A → Numbers} {n : Numbers} {x : A} → f x ≡ n → Keeps f n x
 kept e = record { same = e }
 
 -- what both arms keep, the choice keeps
-either : {A : Type 0} {f : A → ℕ} {n : ℕ} (b : Bool) {x y : A} → Keeps f n x → Keeps f n y → Keeps f n (cond b x y)
+either : {A : Type 0} {f : A → Numbers} {n : Numbers} (b : Bool) {x y : A} → Keeps f n x → Keeps f n y → Keeps f n (cond b x y)
 either {f = f} {n = n} b {x} {y} p q = by-test (Keeps f n) b x y (λ _. p) (λ _. q)
 
 -- what each arm gives, the choice gives
-by-both : (b : Bool) (x y : Reu) (n k : ℕ) → of x ≡ n → of y ≡ k → of (cond b x y) ≡ cond b n k
+by-both : (b : Bool) (x y : Reu) (n k : Numbers) → of x ≡ n → of y ≡ k → of (cond b x y) ≡ cond b n k
 by-both true x y n k p q = p
 by-both false x y n k p q = q
 
@@ -142,15 +150,15 @@ tick-keeps u m s cycle low = dma-kept (u .dma) u _ cycle low .same
 
 -- ---- the cycle
 
--- the count after a cycle with this grant
-abbrev pub after-grant : ℕ → ℕ → ℕ
-after-grant grant n = cond (eqb grant (actionNumber Transfer)) (capped (n + 1)) n
+-- after a cycle with this grant
+abbrev pub after-grant : ℕ → Numbers → Numbers
+after-grant grant p = with (λ n. cond (eqb grant (actionNumber Transfer)) (capped (n + 1)) n) p
 
 by-grant : (a : ReuBusAction) (u : Reu) (m s : List ℕ) (cycle : ℕ) (low : Bool) → of (cycleBy a u m s cycle low .0 .reu) ≡ after-grant (actionNumber a) (of u)
 unfolding cycleBy counted
 by-grant Cpu u m s cycle low = refl
 by-grant Hold u m s cycle low = refl
-by-grant Transfer u m s cycle low = ap (λ (n : ℕ). capped (n + 1)) (tick-keeps u m s cycle low)
+by-grant Transfer u m s cycle low = ap (with (λ n. capped (n + 1))) (tick-keeps u m s cycle low)
 
 pub cycle-counts : (u : Reu) (m s : List ℕ) (high phi1 : Bool) (cycle : ℕ) (low : Bool)
     → of (runReuCycle u m s high phi1 cycle low .0 .reu) ≡ after-grant (actionNumber (busAction u s high phi1 cycle .0 .action)) (of u)
@@ -161,22 +169,22 @@ cycle-counts u m s high phi1 cycle low =
 
 -- ---- a start
 
--- the count after a start, where one comes
-abbrev pub after-start : Bool → Bool → ℕ → ℕ
-after-start attached comes n = cond (attached && comes) 0 n
+-- after a start, where one comes
+abbrev pub after-start : Bool → Bool → Numbers → Numbers
+after-start attached comes p = with (λ n. cond (attached && comes) 0 n) p
 
 start-zeroes : (u : Reu) → of (startDma u) ≡ after-start (u .attached) true (of u)
 unfolding startDma
-start-zeroes u = by-both (u .attached) _ _ 0 (of u) refl refl ∙ also (u .attached)
+start-zeroes u = by-both (u .attached) _ _ (0, u .size) (of u) refl refl ∙ also (u .attached)
   where
-    also : (a : Bool) → cond a 0 (of u) ≡ after-start a true (of u)
+    also : (a : Bool) → cond a (0, u .size) (of u) ≡ after-start a true (of u)
     also true = refl
     also false = refl
 
 -- no start
-none : (a : Bool) (n : ℕ) → n ≡ after-start a false n
-none true n = refl
-none false n = refl
+none : (a : Bool) (p : Numbers) → p ≡ after-start a false p
+none true p = refl
+none false p = refl
 
 pub trigger-zeroes : (u : Reu) → of (triggerFf00 u) ≡ after-start (u .attached) (u .«waiting_ff00» && bit (reg u 1) 7) (of u)
 unfolding triggerFf00
