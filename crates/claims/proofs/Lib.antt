@@ -15,3 +15,4 @@ pub mod Sessions
 pub mod GrantedCycles
 pub mod PassedTop
 pub mod RemainingBytes
+pub mod ChipSize

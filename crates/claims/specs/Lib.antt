@@ -6,3 +6,4 @@ pub mod Sessions
 pub mod GrantedCycles
 pub mod PassedTop
 pub mod RemainingBytes
+pub mod ChipSize

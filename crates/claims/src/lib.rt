@@ -1,5 +1,6 @@
 // The claims about whole runs of the exported calls, one about bytes completed one after another, and those about saved machines. Each function does
 // nothing: its `ensures` is the claim.
+ghost use Rattle.claims.specs.ChipSize.{ChipSize};
 ghost use Rattle.claims.specs.GrantedCycles.{GrantedCycles};
 ghost use Rattle.claims.specs.PassedTop.{PassedTop};
 ghost use Rattle.claims.specs.RemainingBytes.{RemainingBytes};
@@ -41,4 +42,10 @@ pub fn passed_top()
 // Each remaining from 1 to 65,536 has its own pair of bytes in an image and comes back from it, and each pair of bytes has its own remaining.
 pub fn remaining_bytes()
     ensures { λ r. ⌜ RemainingBytes ⌝ }
+{}
+
+// Exactly three sizes can be set, each with its number of address lines. Over any list of the sixteen calls the size is the one set last, and bit 4 of
+// STATUS its mark.
+pub fn chip_size()
+    ensures { λ r. ⌜ ChipSize ⌝ }
 {}

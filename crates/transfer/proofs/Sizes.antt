@@ -113,15 +113,15 @@ unfolding isSize
 is-power k e lo hi =
     λ i. eq-eqb (ones (2 ^ k)) 1 (one-one k) i && (le-leb 17 (lines (2 ^ k)) (omega arith) i && le-leb (lines (2 ^ k)) 19 (omega arith) i)
 
-lines-17 : lines 131072 ≡ 17
+pub lines-17 : lines 131072 ≡ 17
 unfolding lines trailingZeros
 lines-17 = refl
 
-lines-18 : lines 262144 ≡ 18
+pub lines-18 : lines 262144 ≡ 18
 unfolding lines trailingZeros
 lines-18 = refl
 
-lines-19 : lines 524288 ≡ 19
+pub lines-19 : lines 524288 ≡ 19
 unfolding lines trailingZeros
 lines-19 = refl
 
