@@ -1,15 +1,15 @@
 /*
- * reu.h: the MOS 8726 RAM expansion controller (REU) with 512 KiB, bus cycle by bus cycle.
+ * reu.h: the MOS 8726 RAM expansion controller (REU) with 128, 256 or 512 KiB, bus cycle by bus cycle.
  *
- * The library is a port of the controller of the Breadbin466 emulator (MIT licence, see NOTICE) and answers as it does,
- * but for two marks (see AN ADDRESS THAT PASSES ITS TOP): that is shown by comparison runs. That each call answers and
- * leaves what a written definition says is proved, of the source on the language's abstract machine (the compiler's
- * back end is not covered).
+ * The library is a port of the controller of the Breadbin466 emulator (MIT licence, see NOTICE). With 512 KiB, the only
+ * size that the original has, it answers as that does, but for two marks (see AN ADDRESS THAT PASSES ITS TOP): that is
+ * shown by comparison runs. That each call answers and leaves what a written definition says is proved, of the source on
+ * the language's abstract machine (the compiler's back end is not covered).
  * It allocates nothing and keeps nothing between calls: everything stands in three buffers of the host.
  *
  *   image    REU_IMAGE_SIZE bytes  the whole controller: registers, flags, the running transfer and a count
  *   bus      65,536 bytes          the memory that the controller sees as the C64's
- *   storage  524,288 bytes         the expansion memory
+ *   storage  524,288 bytes         the expansion memory; 131,072 or 262,144 bytes after reu_set_size()
  *
  * A store of one byte, from $1000 to expansion address 0:
  *
@@ -24,12 +24,14 @@
  * ANSWERS AND REFUSALS
  * Each call answers 16,777,216 times a refusal number plus a value; reu_refusal() and reu_value() take it apart.
  * Refusal 0 means that the call was accepted. A refused call has value 0 and changes no byte of any buffer.
- * The tests come in this order, each only where the call takes that buffer:
+ * The tests come in this order, each only where the call takes that buffer or that size:
  *
  *   1  the image's length is not REU_IMAGE_SIZE
  *   2  the image has a field that no controller can have (see THE IMAGE); reu_new() does not test this
  *   3  the bus's length is not 65,536
- *   4  the storage's length is not 524,288
+ *   4  the storage's length is not the size that is set
+ *   5  the size to be set is not 131,072, 262,144 or 524,288
+ *   6  a size is to be set, and the storage is attached
  *
  * Nothing else is refused: every address, byte, index, cycle number and flag is accepted. An image made by reu_new()
  * and changed only by these calls is never refused. Where nothing else is said below, the value is 0.
@@ -61,7 +63,7 @@
  * expansion address stepped from $FFFFFF to 0. So it is with every byte that is completed, the last of a block too, one
  * that differs in a verify, and one that a recall repeats. A fixed address does not step and never reports. A call that
  * completes no byte reports neither: the first tick of a swap's byte, a refresh, a verify tail, Hold, a cycle of the
- * CPU, a tick without a transfer, a refused call. That the storage begins anew each 524,288 bytes is not reported.
+ * CPU, a tick without a transfer, a refused call. That the storage begins anew behind its last byte is not reported.
  * Bit 0 is what the original answers, which has no such marks: a host tests reu_value(answer) & 1, and not == 1.
  *
  * LEFT TO THE HOST
@@ -80,9 +82,14 @@ extern "C" {
 
 #define REU_VERSION "0.4.0"
 
-/* Lengths of the buffers; REU_IMAGE_SIZE stands behind the image's places. */
+/* Lengths of the buffers, a storage's if no other is set; REU_IMAGE_SIZE stands behind the image's places. */
 #define REU_BUS_SIZE 65536
-#define REU_STORAGE_SIZE 524288
+#define REU_STORAGE_SIZE REU_SIZE_512K
+
+/* Sizes of a storage, for reu_set_size(): the 1700's, the 1764's and the 1750's. */
+#define REU_SIZE_128K 131072
+#define REU_SIZE_256K 262144
+#define REU_SIZE_512K 524288
 
 /* Refusals. */
 #define REU_ACCEPTED 0
@@ -90,6 +97,8 @@ extern "C" {
 #define REU_REFUSED_IMAGE_FIELD 2
 #define REU_REFUSED_BUS_LENGTH 3
 #define REU_REFUSED_STORAGE_LENGTH 4
+#define REU_REFUSED_SIZE 5
+#define REU_REFUSED_ATTACHED 6
 
 /* Grants: the value of reu_bus_action(). */
 #define REU_GRANT_CPU 0
@@ -119,7 +128,7 @@ extern "C" {
 #define REU_INTERRUPT_MASK 9
 #define REU_ADDRESS_CONTROL 10
 
-/* STATUS. */
+/* STATUS. VERSION is the chip-size mark, 0 for 128 KiB and 1 for the other sizes: reads, starts and resets keep it. */
 #define REU_STATUS_VERSION 0x10
 #define REU_STATUS_VERIFY_ERROR 0x20
 #define REU_STATUS_END_OF_BLOCK 0x40
@@ -148,10 +157,12 @@ extern "C" {
  * An image may be copied, kept in a file and compared byte by byte: two accepted images are equal exactly if their
  * controllers are. An image, a bus and a storage together are a saved machine. Numbers of more than one byte have their
  * low byte first. Registers, shadows and the count may have any value, and while a transfer is running so may both its
- * addresses, its remaining length and its latch; the other fields are refused (2) outside the values given, and so are a
- * transfer while the storage is not attached, a write phase without swap, and a verify tail without verify or with a
- * remaining length other than 1. Without a transfer all bytes from REU_IMAGE_TYPE up to REU_IMAGE_GRANTED_CYCLES are 0.
- * Images of earlier releases have 34 bytes (0.1.0) or 38 (0.2.0, 0.3.0) and are refused (1), whatever they hold.
+ * addresses, its remaining length and its latch; the other fields are refused (2) outside the values given, and so are
+ * a chip-size mark in STATUS that is not that of the size, a transfer while the storage is not attached, a write phase
+ * without swap, and a verify tail without verify or with a remaining length other than 1. Without a transfer all bytes
+ * from REU_IMAGE_TYPE up to REU_IMAGE_GRANTED_CYCLES are 0.
+ * Images of earlier releases have 34 bytes (0.1.0) or 38 (0.2.0, 0.3.0) and are refused (1), whatever they hold. One of
+ * 0.4.0 is an image of 512 KiB, and has its mark if it was made by reu_new() and changed only by calls.
  * Each place is the one before plus its width, so a field reaches up to the next place.
  */
 #define REU_IMAGE_REGISTERS 0                                    /* by index, as held */
@@ -159,7 +170,7 @@ extern "C" {
 #define REU_IMAGE_SHADOW_EXPANSION (REU_IMAGE_SHADOW_C64 + 2)    /* expansion address */
 #define REU_IMAGE_SHADOW_LENGTH (REU_IMAGE_SHADOW_EXPANSION + 3) /* length */
 #define REU_IMAGE_FLAGS (REU_IMAGE_SHADOW_LENGTH + 2)            /* REU_FLAG_ENABLED to REU_FLAG_LATE_FALL */
-#define REU_IMAGE_MORE_FLAGS (REU_IMAGE_FLAGS + 1)               /* REU_FLAG_REFRESH and REU_FLAG_RELEASE only */
+#define REU_IMAGE_MORE_FLAGS (REU_IMAGE_FLAGS + 1)               /* REU_FLAG_REFRESH to REU_FLAG_SIZE only */
 #define REU_IMAGE_DELAY (REU_IMAGE_MORE_FLAGS + 1)               /* 0 to 2 */
 #define REU_IMAGE_TRANSFER (REU_IMAGE_DELAY + 1)                 /* 1: a transfer is running; else 0 */
 #define REU_IMAGE_TYPE (REU_IMAGE_TRANSFER + 1)                  /* REU_STORE to REU_VERIFY */
@@ -182,9 +193,13 @@ extern "C" {
 #define REU_FLAG_TERMINAL_WRITE 0x40
 #define REU_FLAG_LATE_FALL 0x80
 
-/* Byte REU_IMAGE_MORE_FLAGS. */
+/* Byte REU_IMAGE_MORE_FLAGS. The bits of SIZE hold one of the three behind it. */
 #define REU_FLAG_REFRESH 0x01
 #define REU_FLAG_RELEASE 0x02
+#define REU_FLAG_SIZE 0x0C
+#define REU_FLAG_SIZE_512K 0x00
+#define REU_FLAG_SIZE_256K 0x04
+#define REU_FLAG_SIZE_128K 0x08
 
 /* Byte REU_IMAGE_TRANSFER_FLAGS. */
 #define REU_TRANSFER_FIX_C64 0x01
@@ -239,32 +254,55 @@ static inline uint32_t reu_remaining(const uint8_t *image) {
     return image[REU_IMAGE_TRANSFER] == 0 ? 0u : left == 0 ? 65536u : left;
 }
 
+/*
+ * The size that an image of REU_IMAGE_SIZE bytes sets, attached or not: the length of the storage that belongs to it.
+ * Only the bits of REU_FLAG_SIZE are looked at, whether the calls accept the image or refuse it (2). Bits that are none
+ * of the three sizes, which no accepted image has, give 0.
+ */
+static inline uint32_t reu_storage_size(const uint8_t *image) {
+    uint32_t size = image[REU_IMAGE_MORE_FLAGS] & REU_FLAG_SIZE;
+    return size == REU_FLAG_SIZE_512K   ? REU_SIZE_512K
+           : size == REU_FLAG_SIZE_256K ? REU_SIZE_256K
+           : size == REU_FLAG_SIZE_128K ? REU_SIZE_128K
+                                        : 0u;
+}
+
 /* ---- a controller and its storage ---- */
 
 /*
- * Makes a new controller: disabled, no storage attached, idle, BA was high, the count of granted cycles 0. Whatever the
- * image held is gone. Refuses 1 only.
+ * Makes a new controller: disabled, no storage attached, its size 524,288, idle, BA was high, the count of granted
+ * cycles 0. Whatever the image held is gone. Refuses 1 only.
  */
 uint32_t reu_new(uint8_t *image, size_t image_len);
 
 /*
- * Resets the controller: all is as after reu_new(), the count of granted cycles too, but enabled, attached and the
- * storage are kept. hard_reset makes no difference. Refuses 1, 2.
+ * Resets the controller: all is as after reu_new(), the count of granted cycles too, but enabled, attached, the size
+ * with its mark in STATUS, and the storage are kept. hard_reset makes no difference. Refuses 1, 2.
  */
 uint32_t reu_reset(uint8_t *image, size_t image_len, uint32_t hard_reset);
+
+/*
+ * Sets the size of the storage: REU_SIZE_128K, REU_SIZE_256K or REU_SIZE_512K; all 64 bits of size count. From then on
+ * every call that takes a storage takes one of this size. Bit 4 of STATUS becomes the size's mark at once, and nothing
+ * else changes. A size may be set more than once, but only before the first enabling attaches the storage: after it the
+ * size that is set already is refused too.
+ * With each size the expansion address has 24 bits, the bank reads OR $F8 and the counters step alike; the size decides
+ * only at which place of the storage an address is (see reu_tick_dma). Refuses 1, 2, 5, 6.
+ */
+uint32_t reu_set_size(uint8_t *image, size_t image_len, uint64_t size);
 
 /*
  * Enables or disables the controller. Enabling attaches the storage, if it is not attached yet, and then sets every
  * byte of it to 0; one that is attached keeps its bytes. Disabling drops the transfer, clears what a start clears (see
  * reu_write) and lowers the interrupt level; it keeps the registers, the shadows, the storage and what is known of BA.
- * Neither changes the count of granted cycles. Refuses 1, 2, 4.
+ * Neither changes the size or the count of granted cycles. Refuses 1, 2, 4.
  */
 uint32_t reu_set_enabled(uint8_t *image, size_t image_len, uint8_t *storage, size_t storage_len, uint32_t enabled);
 
 /* Answers 1 if the storage is attached, else 0. Refuses 1, 2. */
 uint32_t reu_storage_present(const uint8_t *image, size_t image_len);
 
-/* Answers 524,288 if the storage is attached, else 0. Refuses 1, 2. */
+/* Answers the size of the storage if it is attached, else 0; reu_storage_size() gives it before too. Refuses 1, 2. */
 uint32_t reu_capacity_bytes(const uint8_t *image, size_t image_len);
 
 /* ---- registers ---- */
@@ -343,8 +381,8 @@ uint32_t reu_bus_action(uint8_t *image, size_t image_len, uint8_t *storage, size
  * tick a byte, swap two or, if BA interrupts it, more. Without a transfer nothing happens.
  * - A tick with refresh set clears it and only reads the C64's byte into the storage once more.
  * - After each byte the addresses step up unless fixed, C64 from $FFFF to 0, expansion from $FFFFFF to 0, and the
- *   length steps down to 1, where it stays; the registers hold them. The expansion address modulo 524,288 is the place
- *   in the storage.
+ *   length steps down to 1, where it stays; the registers hold them. The expansion address modulo the storage's size is
+ *   the place in the storage.
  * - A byte that differs in a verify sets bit 5 of STATUS and ends the command. If it was the last but one, one more
  *   tick compares the last byte before the end, moves no counter, leaves bit 5, and sets bit 6 exactly if it is equal.
  * - With recall repeat set, a recall that is past its first byte writes the latch (the byte that it wrote last) instead

@@ -5,7 +5,7 @@ use std::{error, fmt};
 
 /// Why a call was refused. A refused call has changed nothing.
 ///
-/// The library tests in this order, each only where the call takes that buffer.
+/// The library tests in this order, each only where the call takes that buffer or that size.
 #[derive(Clone, Copy, Debug, PartialEq, Eq)]
 pub enum Refusal {
     /// 1: the image's length is not [`IMAGE_SIZE`].
@@ -14,8 +14,12 @@ pub enum Refusal {
     ImageField,
     /// 3: the bus's length is not [`BUS_SIZE`].
     BusLength,
-    /// 4: the storage's length is not [`STORAGE_SIZE`].
+    /// 4: the storage's length is not the size that is set, [`STORAGE_SIZE`] if none was.
     StorageLength,
+    /// 5: the size to be set is none of [`SIZE_128K`], [`SIZE_256K`] and [`SIZE_512K`].
+    Size,
+    /// 6: a size is to be set, and the storage is attached.
+    Attached,
 }
 
 impl Refusal {
@@ -26,6 +30,8 @@ impl Refusal {
             Refusal::ImageField => REFUSED_IMAGE_FIELD,
             Refusal::BusLength => REFUSED_BUS_LENGTH,
             Refusal::StorageLength => REFUSED_STORAGE_LENGTH,
+            Refusal::Size => REFUSED_SIZE,
+            Refusal::Attached => REFUSED_ATTACHED,
         }
     }
 }
@@ -36,7 +42,9 @@ impl fmt::Display for Refusal {
             Refusal::ImageLength => write!(f, "an image has {IMAGE_SIZE} bytes"),
             Refusal::ImageField => write!(f, "the image has a field that no controller can have"),
             Refusal::BusLength => write!(f, "a bus has {BUS_SIZE} bytes"),
-            Refusal::StorageLength => write!(f, "a storage has {STORAGE_SIZE} bytes"),
+            Refusal::StorageLength => write!(f, "the storage has another length than the size that is set"),
+            Refusal::Size => write!(f, "a storage has {SIZE_128K}, {SIZE_256K} or {SIZE_512K} bytes"),
+            Refusal::Attached => write!(f, "no size can be set once the storage is attached"),
         }
     }
 }
@@ -88,6 +96,8 @@ pub(crate) fn split(answer: u32) -> Result<u32, Refusal> {
         REFUSED_IMAGE_FIELD => Err(Refusal::ImageField),
         REFUSED_BUS_LENGTH => Err(Refusal::BusLength),
         REFUSED_STORAGE_LENGTH => Err(Refusal::StorageLength),
+        REFUSED_SIZE => Err(Refusal::Size),
+        REFUSED_ATTACHED => Err(Refusal::Attached),
         other => unreachable!("the library has no refusal {other}"),
     }
 }

@@ -1,4 +1,4 @@
-//! The fifteen calls on slices, for a host that keeps the buffers itself.
+//! The sixteen calls on slices, for a host that keeps the buffers itself.
 //!
 //! Each does what `include/reu.h` says of the call of that name. Slices of any length are accepted or refused; a refused
 //! call has changed nothing.
@@ -30,9 +30,31 @@ pub fn new(image: &mut [u8]) -> Answer<()> {
     split(unsafe { raw::reu_new(image.as_mut_ptr(), image.len()) }).map(|_| ())
 }
 
-/// Resets the controller; enabled and attached are kept. `hard_reset` makes no difference.
+/// Resets the controller; enabled, attached and the size are kept. `hard_reset` makes no difference.
 pub fn reset(image: &mut [u8], hard_reset: bool) -> Answer<()> {
     split(unsafe { raw::reu_reset(image.as_mut_ptr(), image.len(), hard_reset.into()) }).map(|_| ())
+}
+
+/// Sets the size of the storage in bytes, and with it STATUS's bit 4, before the storage is attached.
+///
+/// It takes any number, to refuse those that no storage has; [`Size`](crate::Size) has the three others.
+///
+/// ```
+/// use reu::{Refusal, calls};
+///
+/// let mut image = [0; reu::IMAGE_SIZE];
+/// calls::new(&mut image)?;
+/// calls::set_size(&mut image, 131_072)?;
+/// assert_eq!(calls::debug_register(&image, 0)?, 0); // the 1700 has no mark
+/// assert_eq!(calls::set_size(&mut image, 100_000), Err(Refusal::Size));
+///
+/// let mut storage = vec![0; reu::SIZE_128K];
+/// calls::set_enabled(&mut image, &mut storage, true)?;
+/// assert_eq!(calls::set_size(&mut image, 131_072), Err(Refusal::Attached));
+/// # Ok::<(), Refusal>(())
+/// ```
+pub fn set_size(image: &mut [u8], size: u64) -> Answer<()> {
+    split(unsafe { raw::reu_set_size(image.as_mut_ptr(), image.len(), size) }).map(|_| ())
 }
 
 /// Enables or disables the controller. Enabling attaches a storage that is not attached and sets every byte of it to 0.
@@ -48,7 +70,7 @@ pub fn storage_present(image: &[u8]) -> Answer<bool> {
     split(unsafe { raw::reu_storage_present(image.as_ptr(), image.len()) }).map(|value| value != 0)
 }
 
-/// 524,288 if the storage is attached, else 0.
+/// The size of the storage in bytes if it is attached, else 0.
 pub fn capacity_bytes(image: &[u8]) -> Answer<usize> {
     split(unsafe { raw::reu_capacity_bytes(image.as_ptr(), image.len()) }).map(|value| value as usize)
 }

@@ -88,7 +88,7 @@ pub const ADDRESS_CONTROL: u16 = 10;
 
 // Bits of STATUS.
 
-/// Version mark.
+/// The chip-size mark: 0 for [`SIZE_128K`], 1 for the other sizes.
 pub const STATUS_VERSION: u8 = 0x10;
 /// A byte differed.
 pub const STATUS_VERIFY_ERROR: u8 = 0x20;
@@ -142,7 +142,7 @@ pub const IMAGE_SHADOW_EXPANSION: usize = IMAGE_SHADOW_C64 + 2;
 pub const IMAGE_SHADOW_LENGTH: usize = IMAGE_SHADOW_EXPANSION + 3;
 /// `FLAG_ENABLED` to `FLAG_LATE_FALL`.
 pub const IMAGE_FLAGS: usize = IMAGE_SHADOW_LENGTH + 2;
-/// `FLAG_REFRESH` and `FLAG_RELEASE`; no other bit.
+/// `FLAG_REFRESH` to `FLAG_SIZE`; no other bit.
 pub const IMAGE_MORE_FLAGS: usize = IMAGE_FLAGS + 1;
 /// 0 to 2.
 pub const IMAGE_DELAY: usize = IMAGE_MORE_FLAGS + 1;
@@ -192,6 +192,14 @@ pub const FLAG_LATE_FALL: u8 = 0x80;
 pub const FLAG_REFRESH: u8 = 0x01;
 /// The CPU may go on even with BA low, once.
 pub const FLAG_RELEASE: u8 = 0x02;
+/// The bits of the size: they hold one of the three below.
+pub const FLAG_SIZE: u8 = 0x0C;
+/// [`SIZE_512K`].
+pub const FLAG_SIZE_512K: u8 = 0x00;
+/// [`SIZE_256K`].
+pub const FLAG_SIZE_256K: u8 = 0x04;
+/// [`SIZE_128K`].
+pub const FLAG_SIZE_128K: u8 = 0x08;
 
 // Bits of the byte at `IMAGE_TRANSFER_FLAGS`.
 

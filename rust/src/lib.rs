@@ -1,4 +1,4 @@
-//! The MOS 8726 RAM expansion controller (REU) with 512 KiB, bus cycle by bus cycle.
+//! The MOS 8726 RAM expansion controller (REU) with 128, 256 or 512 KiB, bus cycle by bus cycle.
 //!
 //! The controller is in `libreu.a`. What each of its calls answers and leaves is proved, of the library's source on the
 //! language's abstract machine (the compiler's back end is not covered). This crate has the calls for a Rust host:
@@ -31,7 +31,9 @@ pub mod calls;
 mod constants;
 mod machine;
 pub mod raw;
+mod size;
 
 pub use answer::{Access, Grant, Refusal, Step};
 pub use constants::*;
 pub use machine::Machine;
+pub use size::Size;

@@ -3,11 +3,12 @@
 use crate::answer::{Access, Grant, Refusal, Step};
 use crate::calls::{self, Answer};
 use crate::constants::*;
+use crate::size::Size;
 
 /// A controller with its bus and its storage.
 ///
 /// Its buffers have the right lengths and its image is one that the library accepts, so none of its calls is refused.
-/// Only [`Machine::open`], which takes bytes from outside, can be.
+/// Only [`Machine::open`], which takes bytes from outside, and [`Machine::set_size`], which may come too late, can be.
 ///
 /// Two machines are equal exactly if every byte of image, bus and storage is.
 #[derive(Clone, PartialEq, Eq)]
@@ -36,14 +37,30 @@ impl std::fmt::Debug for Machine {
 }
 
 impl Machine {
-    /// A new controller, disabled and with no storage attached; bus and storage are all 0.
+    /// A new controller of 512 KiB, disabled and with no storage attached; bus and storage are all 0.
     pub fn new() -> Self {
-        let mut image = [0; IMAGE_SIZE];
-        accepted(calls::new(&mut image));
-        Machine { image, bus: vec![0; BUS_SIZE].into(), storage: vec![0; STORAGE_SIZE].into() }
+        Machine::with_size(Size::default())
     }
 
-    /// Opens a saved machine. Bytes that are no machine are refused.
+    /// The same, of this size.
+    ///
+    /// ```
+    /// use reu::{Machine, Size};
+    ///
+    /// let mut machine = Machine::with_size(Size::K128); // a 1700
+    /// machine.set_enabled(true);
+    /// assert_eq!((machine.storage().len(), machine.capacity_bytes()), (131_072, 131_072));
+    /// assert_eq!(machine.read(0xDF00), 0x00); // no mark in STATUS
+    /// assert_eq!(Machine::new().read(0xDF00), 0x10);
+    /// ```
+    pub fn with_size(size: Size) -> Self {
+        let mut image = [0; IMAGE_SIZE];
+        accepted(calls::new(&mut image));
+        accepted(calls::set_size(&mut image, size.bytes() as u64));
+        Machine { image, bus: vec![0; BUS_SIZE].into(), storage: vec![0; size.bytes()].into() }
+    }
+
+    /// Opens a saved machine, whose storage has the size that its image sets. Bytes that are no machine are refused.
     ///
     /// ```
     /// use reu::{Machine, Refusal};
@@ -60,13 +77,13 @@ impl Machine {
     /// ```
     pub fn open(image: &[u8], bus: &[u8], storage: &[u8]) -> Answer<Self> {
         calls::dma_active(image)?; // tests the image and changes nothing
+        let image = image.try_into().map_err(|_| Refusal::ImageLength)?;
         if bus.len() != BUS_SIZE {
             return Err(Refusal::BusLength);
         }
-        if storage.len() != STORAGE_SIZE {
+        if storage.len() != Size::of_image(&image).bytes() {
             return Err(Refusal::StorageLength);
         }
-        let image = image.try_into().map_err(|_| Refusal::ImageLength)?;
         Ok(Machine { image, bus: bus.into(), storage: storage.into() })
     }
 
@@ -155,9 +172,35 @@ impl Machine {
         }
     }
 
-    /// Resets the controller; enabled, attached and the storage are kept. `hard_reset` makes no difference.
+    /// The size of the storage, whether it is attached or not.
+    pub fn size(&self) -> Size {
+        Size::of_image(&self.image)
+    }
+
+    /// Resets the controller; enabled, attached, the size and the storage are kept. `hard_reset` makes no difference.
     pub fn reset(&mut self, hard_reset: bool) {
         accepted(calls::reset(&mut self.image, hard_reset));
+    }
+
+    /// Sets the size, and with it STATUS's bit 4. The machine then has another storage, all 0.
+    ///
+    /// Once the storage is attached this is refused, the size that it has too, and the machine stays as it is.
+    ///
+    /// ```
+    /// use reu::{Machine, Refusal, Size};
+    ///
+    /// let mut machine = Machine::new();
+    /// machine.set_size(Size::try_from(262_144)?)?;
+    /// assert_eq!(machine.size(), Size::K256);
+    /// machine.set_enabled(true);
+    /// assert_eq!(machine.set_size(Size::K512), Err(Refusal::Attached));
+    /// assert_eq!(machine.size(), Size::K256);
+    /// # Ok::<(), Refusal>(())
+    /// ```
+    pub fn set_size(&mut self, size: Size) -> Answer<()> {
+        calls::set_size(&mut self.image, size.bytes() as u64)?;
+        self.storage = vec![0; size.bytes()].into();
+        Ok(())
     }
 
     /// Enables or disables the controller. Enabling attaches a storage that is not attached and sets every byte of it
@@ -171,7 +214,7 @@ impl Machine {
         accepted(calls::storage_present(&self.image))
     }
 
-    /// 524,288 if the storage is attached, else 0.
+    /// The size of the storage in bytes if it is attached, else 0; [`Machine::size`] has it before too.
     pub fn capacity_bytes(&self) -> usize {
         accepted(calls::capacity_bytes(&self.image))
     }

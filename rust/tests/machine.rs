@@ -119,8 +119,11 @@ fn a_machine_is_its_bytes() {
 
 #[test]
 fn refusals_have_their_numbers_and_words() {
-    use Refusal::{BusLength, ImageField, ImageLength, StorageLength};
-    let refusals = [ImageLength, ImageField, BusLength, StorageLength];
-    assert_eq!(refusals.map(Refusal::number), [1, 2, 3, 4]);
-    assert_eq!(StorageLength.to_string(), "a storage has 524288 bytes");
+    use Refusal::{Attached, BusLength, ImageField, ImageLength, Size, StorageLength};
+    let refusals = [ImageLength, ImageField, BusLength, StorageLength, Size, Attached];
+    assert_eq!(refusals.map(Refusal::number), [1, 2, 3, 4, 5, 6]);
+    assert_eq!(BusLength.to_string(), "a bus has 65536 bytes");
+    assert_eq!(StorageLength.to_string(), "the storage has another length than the size that is set");
+    assert_eq!(Size.to_string(), "a storage has 131072, 262144 or 524288 bytes");
+    assert_eq!(Attached.to_string(), "no size can be set once the storage is attached");
 }
