@@ -1,7 +1,9 @@
-//! Every call with every wrong buffer: the right refusal, in the right order, and nothing changed.
+//! Every call with every wrong buffer, with each size: the right refusal, in the right order, and nothing changed.
 
-use reu::{BUS_SIZE, IMAGE_DELAY, IMAGE_SIZE, Machine, Refusal, STORAGE_SIZE, calls, raw};
+use reu::*;
 use std::ptr::{null, null_mut};
+
+const SIZES: [Size; 3] = [Size::K128, Size::K256, Size::K512];
 
 /// A call: whether it takes a bus and a storage, and how it is made.
 type Call = (bool, bool, fn(&mut [u8], &mut [u8], &mut [u8]) -> Result<(), Refusal>);
@@ -10,7 +12,7 @@ fn unit<T>(answer: Result<T, Refusal>) -> Result<(), Refusal> {
     answer.map(|_| ())
 }
 
-/// All but `new`, which does not look at the image's fields.
+/// All but `new`, which does not look at the image's fields, and `set_size`, which has refusals of its own.
 const CALLS: [Call; 14] = [
     (false, false, |image, _, _| calls::reset(image, false)),
     (false, true, |image, _, storage| calls::set_enabled(image, storage, true)),
@@ -28,17 +30,39 @@ const CALLS: [Call; 14] = [
     (true, true, |image, bus, storage| unit(calls::run_reu_cycle(image, bus, storage, true, 0, false, true))),
 ];
 
-/// Images in the middle of a swap: right, with a delay of 3, one byte short, one byte long, empty.
-fn images() -> [Vec<u8>; 5] {
-    let mut machine = Machine::new();
+/// In the middle of a swap.
+fn swapping(size: Size) -> Machine {
+    let mut machine = Machine::with_size(size);
     machine.set_enabled(true);
     machine.write(0xDF01, 0x92);
-    let right = machine.image().to_vec();
-    let mut field = right.clone();
-    field[IMAGE_DELAY] = 3;
-    let mut long = right.clone();
-    long.push(0);
-    [right.clone(), field, right[1..].to_vec(), long, Vec::new()]
+    machine
+}
+
+/// A machine's image: right, with a delay of 3, the other mark in STATUS, a size of no storage and each bit behind it;
+/// one byte short, one byte long, empty.
+fn images(machine: &Machine) -> Vec<Vec<u8>> {
+    let right = machine.image();
+    let set = |place: usize, bits: u8| {
+        let mut image = right.to_vec();
+        image[place] |= bits;
+        image
+    };
+    let mut other_mark = right.to_vec();
+    other_mark[usize::from(STATUS)] ^= 0x10;
+    let fields = [0x0C, 0x10, 0x20, 0x40, 0x80].map(|bits| set(IMAGE_MORE_FLAGS, bits));
+    let lengths = [right[1..].to_vec(), [&right[..], &[0]].concat(), Vec::new()];
+    [vec![right.to_vec(), set(IMAGE_DELAY, 3), other_mark], fields.into(), lengths.into()].concat()
+}
+
+/// The bytes of the storage that belongs to an image. None does if the byte of the size holds something else than one of
+/// the three, or STATUS has another mark than that size.
+fn storage_size(image: &[u8]) -> Option<usize> {
+    match (image[IMAGE_MORE_FLAGS] >> 2, image[usize::from(STATUS)] & 0x10) {
+        (0, 0x10) => Some(524_288),
+        (1, 0x10) => Some(262_144),
+        (2, 0x00) => Some(131_072),
+        _ => None,
+    }
 }
 
 /// What is refused of these buffers, if anything.
@@ -46,13 +70,11 @@ fn expected(image: &[u8], bus: Option<usize>, storage: Option<usize>) -> Result<
     if image.len() != IMAGE_SIZE {
         return Err(Refusal::ImageLength);
     }
-    if image[IMAGE_DELAY] > 2 {
-        return Err(Refusal::ImageField);
-    }
+    let size = storage_size(image).filter(|_| image[IMAGE_DELAY] <= 2).ok_or(Refusal::ImageField)?;
     if bus.is_some_and(|length| length != BUS_SIZE) {
         return Err(Refusal::BusLength);
     }
-    if storage.is_some_and(|length| length != STORAGE_SIZE) {
+    if storage.is_some_and(|length| length != size) {
         return Err(Refusal::StorageLength);
     }
     Ok(())
@@ -66,26 +88,55 @@ fn try_call(call: &Call, image: &[u8], bus_len: usize, storage_len: usize) {
     assert_eq!(run(&mut image_after, &mut bus, &mut storage), wanted);
     if wanted.is_err() {
         assert_eq!(image_after, image);
-        assert!(bus.iter().chain(&storage).all(|&byte| byte == 7));
+        assert!(bus == vec![7; bus_len] && storage == vec![7; storage_len]);
     }
 }
 
-#[test]
-fn wrong_buffers_are_refused_in_order() {
-    let lengths = |right| [right, right - 1, right + 1, 0];
-    for (call, image) in CALLS.iter().flat_map(|call| images().map(|image| (call, image))) {
-        let (bus_lengths, storage_lengths) = (lengths(BUS_SIZE), lengths(STORAGE_SIZE));
+/// On images with and without an attached storage; the one that is lent is also as long as those of the other sizes.
+fn wrong_buffers(size: Size) {
+    let bus_lengths = [BUS_SIZE, BUS_SIZE - 1, BUS_SIZE + 1, 0];
+    let storage_lengths = [131_072, 262_144, 524_288, size.bytes() - 1, size.bytes() + 1, 0];
+    let images: Vec<Vec<u8>> = [Machine::with_size(size), swapping(size)].iter().flat_map(images).collect();
+    for (call, image) in CALLS.iter().flat_map(|call| images.iter().map(move |image| (call, image))) {
         for bus_len in if call.0 { &bus_lengths[..] } else { &[0] } {
             for storage_len in if call.1 { &storage_lengths[..] } else { &[0] } {
-                try_call(call, &image, *bus_len, *storage_len);
+                try_call(call, image, *bus_len, *storage_len);
             }
         }
     }
 }
 
 #[test]
+fn wrong_buffers_are_refused_in_order() {
+    SIZES.into_iter().for_each(wrong_buffers);
+}
+
+/// What `set_size` refuses once image and size are looked at: first a size of no storage, then one that comes too late.
+fn expected_of_size(image: &[u8], size: u64) -> Result<(), Refusal> {
+    expected(image, None, None)?;
+    match size {
+        131_072 | 262_144 | 524_288 if image[IMAGE_FLAGS] & FLAG_ATTACHED == 0 => Ok(()),
+        131_072 | 262_144 | 524_288 => Err(Refusal::Attached),
+        _ => Err(Refusal::Size),
+    }
+}
+
+#[test]
+fn set_size_is_refused_in_order() {
+    let machines = SIZES.map(|size| [Machine::with_size(size), swapping(size)]);
+    for image in machines.iter().flatten().flat_map(images) {
+        for size in [131_072, 262_144, 524_288, 0, 131_071, 524_289, 524_288 + (1 << 32)] {
+            let mut after = image.clone();
+            let wanted = expected_of_size(&image, size);
+            assert_eq!(calls::set_size(&mut after, size), wanted, "{size}");
+            assert!(wanted.is_ok() || after == image);
+        }
+    }
+}
+
+#[test]
 fn new_looks_only_at_the_length() {
-    for mut image in images() {
+    for mut image in SIZES.map(swapping).iter().flat_map(images) {
         let before = image.clone();
         let wanted = if image.len() == IMAGE_SIZE { Ok(()) } else { Err(Refusal::ImageLength) };
         assert_eq!(calls::new(&mut image), wanted);
@@ -102,6 +153,7 @@ fn null_with_length_0_is_refused() {
         [
             raw::reu_new(no, 0),
             raw::reu_reset(no, 0, 0),
+            raw::reu_set_size(no, 0, 131_072),
             raw::reu_set_enabled(no, 0, no, 0, 1),
             raw::reu_storage_present(not, 0),
             raw::reu_capacity_bytes(not, 0),
@@ -117,14 +169,16 @@ fn null_with_length_0_is_refused() {
             raw::reu_run_reu_cycle(no, 0, no, 0, no, 0, 1, 0, 0, 1),
         ]
     };
-    assert_eq!(answers, [refused; 15]);
+    assert_eq!(answers, [refused; 16]);
 }
 
 #[test]
 fn a_machine_opens_only_what_is_one() {
-    let (bus, storage) = (vec![1; BUS_SIZE], vec![2; STORAGE_SIZE]);
-    for image in images() {
-        for (bus, storage) in [(&bus[..], &storage[..]), (&bus[1..], &storage[1..]), (&bus[..], &storage[1..])] {
+    let (bus, storage) = (vec![1; BUS_SIZE], vec![2; 524_288]);
+    for image in SIZES.map(swapping).iter().flat_map(images) {
+        let lengths = [131_071, 131_072, 262_143, 262_144, 524_287, 524_288].into_iter();
+        for (bus, length) in lengths.flat_map(|length| [(&bus[..], length), (&bus[1..], length)]) {
+            let storage = &storage[..length];
             let opened = Machine::open(&image, bus, storage);
             match expected(&image, Some(bus.len()), Some(storage.len())) {
                 Ok(()) => assert_eq!(opened.map(|machine| *machine.image()).unwrap()[..], image),
