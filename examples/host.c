@@ -1,7 +1,7 @@
 /*
- * A test host in C: a store, a swap, a start by FF00, a block over the top of the memory, one of full length, and a saved
- * machine that is written to a file and opened again. It checks every result, says what it did, and answers 0 if all was
- * as expected.
+ * A test host in C: a store, a swap, a start by FF00, a block over the top of the memory, one of full length, a saved
+ * machine that is written to a file and opened again, and a unit of 128 KiB. It checks every result, says what it did,
+ * and answers 0 if all was as expected.
  *
  *   cc -Iinclude examples/host.c target/staticlib/libreu.a -o host && ./host
  *
@@ -13,11 +13,12 @@
 
 #include "reu.h"
 
-/* The three buffers that a host lends, and its clock. */
+/* The three buffers that a host lends, the size of the storage, and its clock. */
 struct machine {
     uint8_t *image;
     uint8_t *bus;
     uint8_t *storage;
+    uint32_t size;
     uint64_t cycle;
 };
 
@@ -47,21 +48,24 @@ static uint8_t *buffer(size_t length) {
 }
 
 /* Buffers with nothing in them yet. */
-static struct machine machine_empty(void) {
+static struct machine machine_empty(uint32_t size) {
     struct machine m;
     m.image = buffer(REU_IMAGE_SIZE);
     m.bus = buffer(REU_BUS_SIZE);
-    m.storage = buffer(REU_STORAGE_SIZE);
+    m.storage = buffer(size);
+    m.size = size;
     m.cycle = 0;
     return m;
 }
 
-static struct machine machine_new(void) {
-    struct machine m = machine_empty();
+/* The size is set before the storage is attached, and need not be where it is REU_STORAGE_SIZE. */
+static struct machine machine_new(uint32_t size) {
+    struct machine m = machine_empty(size);
     memset(m.bus, 0, REU_BUS_SIZE);
     accepted("new", reu_new(m.image, REU_IMAGE_SIZE));
-    accepted("enable", reu_set_enabled(m.image, REU_IMAGE_SIZE, m.storage, REU_STORAGE_SIZE, 1));
-    expect("capacity", accepted("capacity_bytes", reu_capacity_bytes(m.image, REU_IMAGE_SIZE)), REU_STORAGE_SIZE);
+    accepted("set_size", reu_set_size(m.image, REU_IMAGE_SIZE, size));
+    accepted("enable", reu_set_enabled(m.image, REU_IMAGE_SIZE, m.storage, m.size, 1));
+    expect("capacity", accepted("capacity_bytes", reu_capacity_bytes(m.image, REU_IMAGE_SIZE)), size);
     return m;
 }
 
@@ -94,7 +98,7 @@ static void command(struct machine *m, unsigned c64, unsigned long expansion, un
 /* One bus cycle with BA high. Answers 1 if the controller had it, and the marks of an address that passed its top. */
 static uint32_t run_cycle(struct machine *m) {
     return accepted("run_reu_cycle", reu_run_reu_cycle(m->image, REU_IMAGE_SIZE, m->bus, REU_BUS_SIZE, m->storage,
-                                                       REU_STORAGE_SIZE, 1, m->cycle++, 0, 1));
+                                                       m->size, 1, m->cycle++, 0, 1));
 }
 
 /* Cycles until the CPU has the bus again, but at most 100. Answers how many the controller had. */
@@ -181,29 +185,32 @@ static void full_length(struct machine *m) {
 }
 
 static int machine_equal(const struct machine *a, const struct machine *b) {
-    return memcmp(a->image, b->image, REU_IMAGE_SIZE) == 0 && memcmp(a->bus, b->bus, REU_BUS_SIZE) == 0 &&
-           memcmp(a->storage, b->storage, REU_STORAGE_SIZE) == 0;
+    return a->size == b->size && memcmp(a->image, b->image, REU_IMAGE_SIZE) == 0 &&
+           memcmp(a->bus, b->bus, REU_BUS_SIZE) == 0 && memcmp(a->storage, b->storage, a->size) == 0;
 }
 
 static void machine_save(const struct machine *m, const char *path) {
     FILE *file = fopen(path, "wb");
     int saved = file != NULL && fwrite(m->image, REU_IMAGE_SIZE, 1, file) == 1 &&
-                fwrite(m->bus, REU_BUS_SIZE, 1, file) == 1 && fwrite(m->storage, REU_STORAGE_SIZE, 1, file) == 1;
+                fwrite(m->bus, REU_BUS_SIZE, 1, file) == 1 && fwrite(m->storage, m->size, 1, file) == 1;
     if (file == NULL || fclose(file) != 0 || !saved) {
         perror(path);
         exit(2);
     }
 }
 
+/* The image comes first in the file and says how long the storage is. */
 static struct machine machine_open(const char *path, uint64_t cycle) {
-    struct machine m = machine_empty();
+    uint8_t image[REU_IMAGE_SIZE] = {0};
     FILE *file = fopen(path, "rb");
-    int opened = file != NULL && fread(m.image, REU_IMAGE_SIZE, 1, file) == 1 &&
-                 fread(m.bus, REU_BUS_SIZE, 1, file) == 1 && fread(m.storage, REU_STORAGE_SIZE, 1, file) == 1;
+    int opened = file != NULL && fread(image, REU_IMAGE_SIZE, 1, file) == 1;
+    struct machine m = machine_empty(reu_storage_size(image));
+    opened = opened && fread(m.bus, REU_BUS_SIZE, 1, file) == 1 && fread(m.storage, m.size, 1, file) == 1;
     if (file == NULL || fclose(file) != 0 || !opened) {
         perror(path);
         exit(2);
     }
+    memcpy(m.image, image, REU_IMAGE_SIZE);
     m.cycle = cycle;
     return m;
 }
@@ -225,18 +232,37 @@ static void save_and_open(struct machine *m, const char *path) {
     /* The count of granted cycles is part of the image: it goes on where the swap was saved, and the end leaves it. */
     uint32_t granted = reu_granted_cycles(opened.image);
     expect("granted cycles", granted, 3 + 7);
-    printf("  both ended with the same %d + %d + %d bytes, the swap was granted %lu cycles in all\n", REU_IMAGE_SIZE,
-           REU_BUS_SIZE, REU_STORAGE_SIZE, (unsigned long)granted);
+    printf("  both ended with the same %d + %d + %lu bytes, the swap was granted %lu cycles in all\n", REU_IMAGE_SIZE,
+           REU_BUS_SIZE, (unsigned long)opened.size, (unsigned long)granted);
     machine_free(&opened);
+}
+
+/* A 1700: STATUS has no chip-size mark, and behind the last of its $20000 bytes comes its first one again. */
+static void smaller_unit(void) {
+    printf("128 KiB: a store of 5 bytes to expansion $F9FFFE, over the end of the storage\n");
+    struct machine m = machine_new(REU_SIZE_128K);
+    expect("STATUS", register_held(&m, REU_STATUS), 0);
+    memcpy(m.bus + 0x1000, "HELLO", 5);
+    command(&m, 0x1000, 0xF9FFFE, 5, REU_STORE | REU_COMMAND_FF00_DISABLE | REU_COMMAND_EXECUTE);
+    expect("cycles", run_to_end(&m), 5);
+    expect("end differs", memcmp(m.storage + 0x1FFFE, "HE", 2) != 0, 0);
+    expect("start differs", memcmp(m.storage, "LLO", 3) != 0, 0);
+    expect("STATUS at the end", register_held(&m, REU_STATUS), REU_STATUS_END_OF_BLOCK);
+    uint32_t refusal = reu_refusal(reu_set_size(m.image, REU_IMAGE_SIZE, REU_SIZE_256K));
+    expect("another size", refusal, REU_REFUSED_ATTACHED);
+    expect("size", reu_storage_size(m.image), REU_SIZE_128K);
+    printf("  storage ends with %.2s and begins with %.3s; another size is refused by %lu now\n",
+           (const char *)(m.storage + 0x1FFFE), (const char *)m.storage, (unsigned long)refusal);
+    machine_free(&m);
 }
 
 /* Refused calls, null pointers with length 0 among them: the right number, and nothing changed. */
 static void refusals(struct machine *m) {
-    struct machine before = machine_empty();
+    struct machine before = machine_empty(m->size);
     memcpy(before.image, m->image, REU_IMAGE_SIZE);
     memcpy(before.bus, m->bus, REU_BUS_SIZE);
-    memcpy(before.storage, m->storage, REU_STORAGE_SIZE);
-    printf("refusals: no image, a broken image, no bus, no storage\n");
+    memcpy(before.storage, m->storage, m->size);
+    printf("refusals: no image, a broken image, no bus, no storage or a smaller one, a size of no storage\n");
     expect("new, null", reu_refusal(reu_new(NULL, 0)), REU_REFUSED_IMAGE_LENGTH);
     expect("read, null", reu_refusal(reu_read(NULL, 0, 0xDF00)), REU_REFUSED_IMAGE_LENGTH);
     expect("dma_active, null", reu_refusal(reu_dma_active(NULL, 0)), REU_REFUSED_IMAGE_LENGTH);
@@ -245,6 +271,10 @@ static void refusals(struct machine *m) {
            reu_refusal(reu_tick_dma(m->image, REU_IMAGE_SIZE, NULL, 0, NULL, 0, m->cycle, 0)), REU_REFUSED_BUS_LENGTH);
     expect("null storage",
            reu_refusal(reu_bus_action(m->image, REU_IMAGE_SIZE, NULL, 0, 1, 1, m->cycle)), REU_REFUSED_STORAGE_LENGTH);
+    expect("smaller storage",
+           reu_refusal(reu_bus_action(m->image, REU_IMAGE_SIZE, m->storage, REU_SIZE_128K, 1, 1, m->cycle)),
+           REU_REFUSED_STORAGE_LENGTH);
+    expect("size 0", reu_refusal(reu_set_size(m->image, REU_IMAGE_SIZE, 0)), REU_REFUSED_SIZE);
     expect("short image", reu_refusal(reu_reset(m->image, REU_IMAGE_SIZE - 1, 0)), REU_REFUSED_IMAGE_LENGTH);
     m->image[REU_IMAGE_DELAY] ^= 3;
     expect("delay 3", reu_refusal(reu_write(m->image, REU_IMAGE_SIZE, 0xDF02, 1)), REU_REFUSED_IMAGE_FIELD);
@@ -254,13 +284,14 @@ static void refusals(struct machine *m) {
 }
 
 int main(int argc, char **argv) {
-    struct machine m = machine_new();
+    struct machine m = machine_new(REU_STORAGE_SIZE);
     store(&m);
     swap(&m);
     start_by_ff00(&m);
     over_the_top(&m);
     full_length(&m);
     save_and_open(&m, argc > 1 ? argv[1] : "machine.reu");
+    smaller_unit();
     refusals(&m);
     machine_free(&m);
     if (failures != 0) {

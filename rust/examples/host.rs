@@ -1,5 +1,5 @@
-//! A test host in Rust: a store, a swap, a start by FF00, a block over the top of the memory, one of full length, and a
-//! saved machine that is written to a file and opened again.
+//! A test host in Rust: a store, a swap, a start by FF00, a block over the top of the memory, one of full length, a
+//! saved machine that is written to a file and opened again, and a unit of 128 KiB.
 //! It checks every result and says what it did.
 //!
 //!     cargo run --example host
@@ -115,6 +115,20 @@ fn save_and_open(host: &mut Host, path: &str) -> Result<(), Box<dyn Error>> {
     Ok(())
 }
 
+/// A 1700: STATUS has no chip-size mark, and behind the last of its $20000 bytes comes its first one again.
+fn smaller_unit() {
+    let mut host = Host { machine: Machine::with_size(Size::K128), cycle: 0 };
+    host.machine.set_enabled(true);
+    assert_eq!((host.machine.capacity_bytes(), host.machine.read(0xDF00 + STATUS)), (SIZE_128K, 0));
+    host.machine.bus_mut()[0x1000..0x1005].copy_from_slice(b"HELLO");
+    host.command(0x1000, 0xF9_FFFE, 5, STORE | AT_ONCE);
+    assert_eq!(host.run_to_end(), 5);
+    assert_eq!((&host.machine.storage()[0x1_FFFE..], &host.machine.storage()[..3]), (&b"HE"[..], &b"LLO"[..]));
+    assert_eq!(host.machine.set_size(Size::K256), Err(Refusal::Attached));
+    assert_eq!(host.machine.size(), Size::K128);
+    println!("128 KiB: a store over its end goes on at its start, and no other size can be set now");
+}
+
 fn main() -> Result<(), Box<dyn Error>> {
     let path = env::args().nth(1).unwrap_or("machine.reu".into());
     let mut host = Host { machine: Machine::new(), cycle: 0 };
@@ -125,6 +139,7 @@ fn main() -> Result<(), Box<dyn Error>> {
     over_the_top(&mut host);
     full_length(&mut host);
     save_and_open(&mut host, &path)?;
+    smaller_unit();
     println!("all as expected");
     Ok(())
 }
