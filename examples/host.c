@@ -237,6 +237,24 @@ static void save_and_open(struct machine *m, const char *path) {
     machine_free(&opened);
 }
 
+/* Until the storage is attached a size may follow another. STATUS marks all but the smallest. */
+static void sizes(void) {
+    static const uint32_t all[] = {REU_SIZE_512K, REU_SIZE_256K, REU_SIZE_128K};
+    uint8_t image[REU_IMAGE_SIZE];
+    printf("sizes: 512, 256 and 128 KiB, set one after the other\n");
+    accepted("new", reu_new(image, REU_IMAGE_SIZE));
+    for (int i = 0; i < 3; i++) {
+        accepted("set_size", reu_set_size(image, REU_IMAGE_SIZE, all[i]));
+        expect("size", reu_storage_size(image), all[i]);
+        uint32_t status = accepted("read", reu_read(image, REU_IMAGE_SIZE, 0xDF00 + REU_STATUS));
+        expect("STATUS", status, all[i] == REU_SIZE_128K ? 0 : REU_STATUS_VERSION);
+        printf("  %lu bytes: STATUS $%02lX\n", (unsigned long)reu_storage_size(image), (unsigned long)status);
+    }
+    image[REU_IMAGE_MORE_FLAGS] |= REU_FLAG_SIZE;
+    expect("size of a broken image", reu_storage_size(image), 0);
+    expect("broken size", reu_refusal(reu_dma_active(image, REU_IMAGE_SIZE)), REU_REFUSED_IMAGE_FIELD);
+}
+
 /* A 1700: STATUS has no chip-size mark, and behind the last of its $20000 bytes comes its first one again. */
 static void smaller_unit(void) {
     printf("128 KiB: a store of 5 bytes to expansion $F9FFFE, over the end of the storage\n");
@@ -291,6 +309,7 @@ int main(int argc, char **argv) {
     over_the_top(&m);
     full_length(&m);
     save_and_open(&m, argc > 1 ? argv[1] : "machine.reu");
+    sizes();
     smaller_unit();
     refusals(&m);
     machine_free(&m);
