@@ -5,7 +5,7 @@ mod text;
 
 use std::collections::HashMap;
 use std::path::Path;
-use table::{COUNT, Edit, MARKS, PLANTED, Planted};
+use table::{COUNT, Edit, MARKS, PLANTED, Planted, SIZE};
 
 /// The modules that a copy has of its own; elsewhere `crate::` is this program.
 const OWN: [&str; 4] = ["memory", "vic", "reu", "machine"];
@@ -44,20 +44,22 @@ fn edited(text: &str, what: &str, edit: &Edit) -> String {
     text.replace(edit.old, edit.new)
 }
 
-/// A text of a copy: with the count of granted cycles and the marks, and a planted bug if it stands there.
+/// A text of a copy: with the count of granted cycles, the marks and the size, and a planted bug if it stands there.
 fn body(sources: &HashMap<&'static str, String>, name: &str, planted: Option<&Planted>) -> String {
     let text = sources[name].replace("//!", "//");
-    let added = COUNT.iter().map(|edit| ("the count", edit)).chain(MARKS.iter().map(|edit| ("the marks", edit)));
+    let added = [("the count", COUNT), ("the marks", MARKS), ("the size", SIZE)];
+    let added = added.into_iter().flat_map(|(what, edits)| edits.iter().map(move |edit| (what, edit)));
     let of_bug = planted.into_iter().flat_map(|planted| planted.edits().map(move |edit| (planted.name, edit)));
     let edits = added.chain(of_bug);
     edits.filter(|(_, edit)| edit.file == name).fold(text, |text, (what, edit)| edited(&text, what, edit))
 }
 
-/// One copy as a module: the original's modules, and the fifteen calls over them. A bug in the calls alone is over
+/// One copy as a module: the original's modules, and the sixteen calls over them. A bug in the calls alone is over
 /// copy 0's modules.
 fn copy(sources: &HashMap<&'static str, String>, number: usize, planted: Option<&Planted>) -> String {
     let body = |name: &str| body(sources, name, planted);
-    let calls_alone = planted.is_some_and(|planted| planted.edits().all(|edit| edit.file == "accepted"));
+    let calls_alone =
+        planted.is_some_and(|planted| planted.edits().all(|edit| matches!(edit.file, "accepted" | "standin")));
     let modules = if calls_alone { String::new() } else { text::modules(&body, &body("run_reu_cycle")) };
     let base = if calls_alone { 0 } else { number };
     let mut text = format!(
@@ -71,7 +73,7 @@ fn copy(sources: &HashMap<&'static str, String>, number: usize, planted: Option<
     format!("#[allow(warnings, clippy::all)]\nmod copy{number} {{\n{text}}}\n")
 }
 
-/// Copy 0 is the original with the count and the marks; copy N has the Nth planted bug.
+/// Copy 0 is the original with the count, the marks and the size; copy N has the Nth planted bug.
 fn copies(sources: &HashMap<&'static str, String>) -> String {
     let mut text = copy(sources, 0, None);
     let mut calls = String::from("copy0::call,");

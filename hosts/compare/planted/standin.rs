@@ -14,7 +14,7 @@ fn lend(bus: &mut [u8], storage: &mut [u8]) -> ManuallyDrop<Machine> {
     ManuallyDrop::new(Machine::over(bus, storage))
 }
 
-/// The fifteen calls as the library has them, over this copy of the original.
+/// The sixteen calls as the library has them, over this copy of the original.
 pub fn call(call: Call, lent: Lent) -> u32 {
     let Lent { image, bus, storage } = lent;
     let number = refusal(call, image, bus.len(), storage.len());
@@ -26,7 +26,7 @@ pub fn call(call: Call, lent: Lent) -> u32 {
     if call != Call::New {
         machine.load(image);
     }
-    let answer = answer_of!(machine, call);
+    let answer = answer_of!(machine, machine, call);
     *image = machine.image();
     answer
 }

@@ -1,6 +1,6 @@
 // The planted bugs: each is an edit of a text that a copy of the original is made of, or two where it takes two. Before
-// that, each copy is given what the original has not, by edits too: the count of granted cycles, and the marks of an
-// address that passes its top.
+// that, each copy is given what the original has not, by edits too: the count of granted cycles, the marks of an address
+// that passes its top, and a size that can be set.
 
 /// `old` stands exactly once in `file` and is replaced by `new`.
 #[allow(dead_code)] // The build script reads it.
@@ -114,6 +114,68 @@ pub const MARKS: &[Edit] = &[
         new: "u32::from(self.memory.run_reu_cycle(ba_high != 0, cycle, &mut vic)) + self.memory.reu.passed\n" },
 ];
 
+/// The size of the storage, where a programmer would put it into the original: the controller holds it, the fold goes by the
+/// storage that is lent. That it is right is found by comparing it with the original on a storage of repeats
+/// (`src/reference.rs`), which has no size inside.
+#[allow(dead_code)] // The build script reads it.
+#[rustfmt::skip]
+pub const SIZE: &[Edit] = &[
+    Edit { file: "reu",
+        old: "\tpub(crate) passed: u32,\n}",
+        new: "\tpub(crate) passed: u32,\n\tpub(crate) size: usize,\n}" },
+    Edit { file: "reu",
+        old: "passed: 0,\n\t\t};",
+        new: "passed: 0,\n\t\t\tsize: 524_288,\n\t\t};" },
+    Edit { file: "reu",
+        old: "self.regs[STATUS] = STATUS_VERSION;",
+        new: "self.regs[STATUS] = self.mark();" },
+    Edit { file: "reu",
+        old: "self.storage = Some(ReuMemory::new());",
+        new: "self.storage = Some(ReuMemory::sized(self.size));" },
+    Edit { file: "reu",
+        old: "self.storage.as_ref().map_or(0, ReuMemory::capacity)",
+        new: "self.storage.as_ref().map_or(0, |_| self.size)" },
+    Edit { file: "reu",
+        old: "\tpub fn storage_present(&self) -> bool {",
+        new: "\tfn mark(&self) -> u8 {
+\t\tif self.size == 131_072 { 0 } else { STATUS_VERSION }\n\t}
+\n\tpub(crate) fn set_size(&mut self, size: usize) {
+\t\tself.size = size;
+\t\tself.regs[STATUS] = (self.regs[STATUS] & !STATUS_VERSION) | self.mark();\n\t}
+\n\tpub fn storage_present(&self) -> bool {" },
+    Edit { file: "memory",
+        old: "\tpub(crate) fn new() -> Self {",
+        new: "\tpub(crate) fn sized(size: usize) -> Self {
+\t\tSelf { bytes: vec![0; size].into_boxed_slice() }\n\t}\n\n\tpub(crate) fn new() -> Self {" },
+    Edit { file: "memory",
+        old: "fn physical_offset(logical_address: usize) -> usize {\n\t\tlogical_address & REU_1764_ADDRESS_MASK",
+        new: "fn physical_offset(&self, logical_address: usize) -> usize {\n\t\tlogical_address & (self.bytes.len() - 1)" },
+    Edit { file: "memory",
+        old: "self.bytes[Self::physical_offset(logical_address)]",
+        new: "self.bytes[self.physical_offset(logical_address)]" },
+    Edit { file: "memory",
+        old: "let offset = Self::physical_offset(logical_address);",
+        new: "let offset = self.physical_offset(logical_address);" },
+    Edit { file: "host/fields",
+        old: "/// Remaining as two bytes have it",
+        new: "fn code_of(size: usize) -> u8 {
+    match size { 131_072 => 2, 262_144 => 1, _ => 0 }\n}
+\nfn size_coded(code: u8) -> usize {
+    match code { 0 => 524_288, 1 => 262_144, _ => 131_072 }\n}
+\n/// Remaining as two bytes have it" },
+    Edit { file: "host/fields",
+        old: "bits(&[self.swap_refresh, self.swap_release_pending]);",
+        new: "bits(&[self.swap_refresh, self.swap_release_pending]) | code_of(self.size) << 2;" },
+    Edit { file: "host/fields",
+        old: "            passed: 0,",
+        new: "            passed: 0,\n            size: size_coded(image[IMAGE_MORE_FLAGS] >> 2 & 3)," },
+    Edit { file: "host/machine",
+        old: "    pub fn storage_present(&self) -> u32 {",
+        new: "    pub fn set_size(&mut self, size: u64) -> u32 {
+        self.memory.reu.set_size(size as usize);
+        0\n    }\n\n    pub fn storage_present(&self) -> u32 {" },
+];
+
 #[rustfmt::skip]
 pub const PLANTED: &[Planted] = &[
     // Document 01's port mistakes.
@@ -200,7 +262,7 @@ pub const PLANTED: &[Planted] = &[
     edit("reset disables", "reu", "self.ba_was_high = true;", "self.ba_was_high = true; self.enabled = false;"),
     edit("enabling and disabling clear the storage", "reu",
         "if enabled && self.storage.is_none() {",
-        "for storage in self.storage.as_mut() { (0..524_288).for_each(|at| storage.write(at, 0)); }
+        "for storage in self.storage.as_mut() { (0..self.size).for_each(|at| storage.write(at, 0)); }
          if enabled && self.storage.is_none() {"),
     edit("attaching leaves the storage's bytes", "host/machine",
         "lent.bytes_mut().copy_from_slice(made.bytes());", ""),
@@ -248,9 +310,9 @@ pub const PLANTED: &[Planted] = &[
         "1 => Self::Recall,\n\t\t\t2 => Self::Swap,",
         "2 => Self::Recall,\n\t\t\t1 => Self::Swap,"),
     breaks(14, edit("the fold is at 256 KiB", "memory",
-        "logical_address & REU_1764_ADDRESS_MASK",
-        "logical_address & (REU_1764_ADDRESS_MASK >> 1)")),
-    edit("the capacity is 256 KiB", "memory", "REU_1764_CAPACITY_BYTES\n\t}", "REU_1764_CAPACITY_BYTES / 2\n\t}"),
+        "logical_address & (self.bytes.len() - 1)",
+        "logical_address & (self.bytes.len() - 1) & 0x3_FFFF")),
+    edit("the capacity is half the size", "reu", "map_or(0, |_| self.size)", "map_or(0, |_| self.size / 2)"),
     breaks(14, edit("the bank's counter is shown OR $F8", "reu",
         "self.regs[REU_ADDRESS_BANK] = (dma.reu_addr >> 16) as u8;",
         "self.regs[REU_ADDRESS_BANK] = (dma.reu_addr >> 16) as u8 | 0xF8;")),
@@ -406,8 +468,8 @@ pub const PLANTED: &[Planted] = &[
         "self.enabled = enabled;",
         "self.enabled = enabled; if enabled { self.granted_cycles = 0; }"),
     edit("attaching sets the count to 0", "reu",
-        "self.storage = Some(ReuMemory::new());",
-        "self.storage = Some(ReuMemory::new()); self.granted_cycles = 0;"),
+        "self.storage = Some(ReuMemory::sized(self.size));",
+        "self.storage = Some(ReuMemory::sized(self.size)); self.granted_cycles = 0;"),
 
     // Its bytes.
     edit("the count has its high byte first", "host/fields", "to_le_bytes());", "to_be_bytes());"),
@@ -600,21 +662,23 @@ pub const PLANTED: &[Planted] = &[
     edit("the image's length has 8 bits", "accepted", "image.len() != IMAGE", "image.len() % 256 != IMAGE"),
     edit("new tests the image's fields", "accepted", "call != Call::New && !accepted(image)", "!accepted(image)"),
     edit("a longer bus is taken", "accepted", "bus != BUS", "bus < BUS"),
-    edit("a longer storage is taken", "accepted", "storage != STORAGE", "storage < STORAGE"),
-    edit("the storage's length has 32 bits", "accepted", "storage != STORAGE", "storage as u32 as usize != STORAGE"),
+    edit("a longer storage is taken", "accepted", "Some(storage) != size_of(image)", "Some(storage) < size_of(image)"),
+    edit("the storage's length has 32 bits", "accepted",
+        "Some(storage) != size_of(image)",
+        "Some(storage as u32 as usize) != size_of(image)"),
     edit("the storage is tested only if it is attached", "accepted",
-        "call.lends_storage() && storage",
-        "call.lends_storage() && image[IMAGE_FLAGS] & 4 != 0 && storage"),
+        "call.lends_storage() && Some(storage)",
+        "call.lends_storage() && image[IMAGE_FLAGS] & 4 != 0 && Some(storage)"),
     edit("the storage is tested before the bus", "accepted",
         "call.lends_bus() && bus != BUS {\n        3",
-        "call.lends_storage() && storage != STORAGE {\n        4\n    } else if call.lends_bus() && bus != BUS {\n        3"),
+        "call.lends_storage() && Some(storage) != size_of(image) {\n        4\n    } else if call.lends_bus() && bus != BUS {\n        3"),
     edit("the bus is tested before the fields", "accepted",
         "call != Call::New && !accepted(image) {\n        2",
         "call.lends_bus() && bus != BUS {\n        3\n    } else if call != Call::New && !accepted(image) {\n        2"),
     edit("the fields are tested after the storage", "accepted",
         "call != Call::New && !accepted(image) {\n        2",
-        "call.lends_storage() && storage != STORAGE {\n        4\n    } else if call != Call::New && !accepted(image) {\n        2"),
-    edit("the second byte of flags has any value", "accepted", "image[IMAGE_MORE_FLAGS] <= 3 && ", ""),
+        "call.lends_storage() && Some(storage) != size_of(image) {\n        4\n    } else if call != Call::New && !accepted(image) {\n        2"),
+    edit("the second byte of flags has any value", "accepted", "image[IMAGE_MORE_FLAGS] <= 0x0F && ", ""),
     edit("a delay of 3 is taken", "accepted", "image[IMAGE_DELAY] <= 2", "image[IMAGE_DELAY] <= 3"),
     edit("a type beyond 3 is taken", "accepted", "&& kind <= 3", ""),
     edit("a pair of 0 is refused while a transfer runs", "accepted",

@@ -1,9 +1,10 @@
-//! Refusals 1 to 4 as document 01 gives them. Only the places and the lengths are the Rust crate's: what a field may be is
-//! told here once more, apart from the library.
+//! Refusals 1 to 6 as document 01 and request L4 give them. Only the places and the lengths are the Rust crate's: what a
+//! field may be is told here once more, apart from the library.
 
 use crate::calls::Call;
 use crate::remaining::remaining;
-use crate::sides::{BUS, IMAGE, STORAGE};
+use crate::sides::{BUS, IMAGE};
+use crate::sizes::{has_mark, refused_size, size_of};
 use ::reu::*;
 
 /// The transfer of an image that is attached or not.
@@ -22,10 +23,16 @@ fn transfer_accepted(image: &[u8], attached: bool) -> bool {
         && (!tail || (kind == 3 && remaining == 1))
 }
 
+/// A size, and STATUS with its mark.
+fn size_accepted(image: &[u8]) -> bool {
+    size_of(image).is_some_and(|size| has_mark(image, size))
+}
+
 /// Whether an image of the right length is a controller.
 pub fn accepted(image: &[u8]) -> bool {
     let attached = image[IMAGE_FLAGS] & 4 != 0;
-    image[IMAGE_MORE_FLAGS] <= 3 && image[IMAGE_DELAY] <= 2 && transfer_accepted(image, attached)
+    let fields = image[IMAGE_MORE_FLAGS] <= 0x0F && image[IMAGE_DELAY] <= 2;
+    fields && size_accepted(image) && transfer_accepted(image, attached)
 }
 
 /// The refusal number of a call that is lent this image and buffers of these lengths; 0 if it is accepted.
@@ -36,8 +43,10 @@ pub fn refusal(call: Call, image: &[u8], bus: usize, storage: usize) -> u32 {
         2
     } else if call.lends_bus() && bus != BUS {
         3
-    } else if call.lends_storage() && storage != STORAGE {
+    } else if call.lends_storage() && Some(storage) != size_of(image) {
         4
+    } else if let Call::SetSize { size } = call {
+        refused_size(size, image[IMAGE_FLAGS] & 4 != 0)
     } else {
         0
     }

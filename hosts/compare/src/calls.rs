@@ -1,4 +1,4 @@
-//! The fifteen calls, and the steps of a list: one line of text each, so that a list can be replayed.
+//! The sixteen calls, and the steps of a list: one line of text each, so that a list can be replayed.
 
 use crate::accepted::accepted;
 use crate::sides::Image;
@@ -22,10 +22,11 @@ pub enum Call {
     C64Access,
     TickDma { cycle: u64, ba_low: u32 },
     RunReuCycle { ba_high: u32, cycle: u64, ba_low: u32, ba_high_phi1: u32 },
+    SetSize { size: u64 },
 }
 
-/// The fifteen names, in the order of [`Call`].
-pub const NAMES: [&str; 15] = [
+/// The sixteen names, in the order of [`Call`].
+pub const NAMES: [&str; 16] = [
     "new",
     "reset",
     "set_enabled",
@@ -41,12 +42,14 @@ pub const NAMES: [&str; 15] = [
     "c64_access",
     "tick_dma",
     "run_reu_cycle",
+    "set_size",
 ];
 
-/// Makes a call on any machine that has the fifteen as methods.
+/// Makes a call on any machine that has the sixteen as methods. The original has fifteen: the last is a method of something
+/// around it.
 #[cfg(original)]
 macro_rules! answer_of {
-    ($machine:expr, $call:expr) => {
+    ($machine:expr, $sized:expr, $call:expr) => {
         match $call {
             Call::New => $machine.renew(),
             Call::Reset { hard_reset } => $machine.reset(hard_reset),
@@ -65,6 +68,7 @@ macro_rules! answer_of {
             Call::RunReuCycle { ba_high, cycle, ba_low, ba_high_phi1 } => {
                 $machine.run_reu_cycle(ba_high, cycle, ba_low, ba_high_phi1)
             }
+            Call::SetSize { size } => $sized.set_size(size),
         }
     };
 }
@@ -80,7 +84,7 @@ impl Call {
         self.lends_bus() || matches!(self, Call::SetEnabled { .. } | Call::BusAction { .. })
     }
 
-    /// The place among the fifteen, and the arguments in the exported order.
+    /// The place among the sixteen, and the arguments in the exported order.
     fn parts(self) -> (usize, Vec<u64>) {
         match self {
             Call::New => (0, vec![]),
@@ -100,10 +104,11 @@ impl Call {
             Call::RunReuCycle { ba_high, cycle, ba_low, ba_high_phi1 } => {
                 (14, vec![ba_high.into(), cycle, ba_low.into(), ba_high_phi1.into()])
             }
+            Call::SetSize { size } => (15, vec![size]),
         }
     }
 
-    /// The call at a place among the fifteen; none if an argument is missing, left over or too large.
+    /// The call at a place among the sixteen; none if an argument is missing, left over or too large.
     pub fn from_parts(place: usize, arguments: &[u64]) -> Option<Self> {
         let flag = |at: usize| u32::try_from(arguments[at]).ok();
         let addr = |at: usize| u16::try_from(arguments[at]).ok();
@@ -126,6 +131,7 @@ impl Call {
                 let (ba_high, cycle, ba_low, ba_high_phi1) = (flag(0)?, arguments[1], flag(2)?, flag(3)?);
                 Call::RunReuCycle { ba_high, cycle, ba_low, ba_high_phi1 }
             }
+            (15, 1) => Call::SetSize { size: arguments[0] },
             _ => return None,
         })
     }
@@ -167,7 +173,7 @@ pub enum Step {
     Image(Image),
     /// The host writes one byte of the bus.
     Bus(u16, u8),
-    /// The host writes one byte of the storage.
+    /// The host writes one byte of the storage, at this offset modulo its size.
     Storage(u32, u8),
 }
 

@@ -4,7 +4,8 @@ use crate::calls::{Call, Step};
 use crate::generate::Generator;
 use crate::granted::{AtTop, count_of};
 use crate::passed::{AtTops, parted};
-use crate::sides::{IMAGE, Image, Machine, places};
+use crate::sides::{Image, Machine, places};
+use crate::sizes::{AtSizes, BLANK, SIZES, size_of};
 use reu::IMAGE_GRANTED_CYCLES;
 use std::panic::{AssertUnwindSafe, catch_unwind};
 
@@ -14,8 +15,8 @@ const AFTER_IMAGE: usize = 12;
 const LONG_LIST: usize = 140_000;
 /// One list in so many is long.
 const LONG_EVERY: u64 = 400;
-/// A run of so many calls must have been at the top of the count of granted cycles, and at the tops of both addresses in all
-/// the ways that are counted; the gate's runs are as long.
+/// A run of so many calls must have been at the top of the count of granted cycles, at the tops of both addresses in all the
+/// ways that are counted, and at each size in all of those; the gate's runs are as long.
 pub const FULL_RUN: u64 = 5_000_000;
 /// Whole memories are compared at the end of a list and after so many steps.
 const WHOLE_EVERY: usize = 16_384;
@@ -35,11 +36,20 @@ fn differs(what: &str, at: usize, tried: u32, right: u32) -> String {
 }
 
 /// How two answers to one call differ: without their marks, where one of the two is the original's own, or in the marks.
-fn answers_differ(call: Call, answer: u32, right: u32) -> String {
+fn answers_differ(call: Call, answer: u32, right: u32, before: &Image) -> String {
     let ((answer, marks), (right, right_marks)) = (parted(call, answer), parted(call, right));
     match answer == right {
         true => format!("the answer has the marks {marks}, by the addresses {right_marks}"),
-        false => format!("the answer is {answer}, the original's {right}"),
+        false if matches!(call, Call::SetSize { .. }) => format!("the answer is {answer}, by the sizes {right}"),
+        false => format!("the answer is {answer}, the original's {right}{}", remark(before)),
+    }
+}
+
+/// What is said behind "the original's" for a size that it has not.
+fn remark(image: &Image) -> String {
+    match size_of(image) {
+        Some(size) if size != SIZES[0] => format!(" (at {size} bytes: on a storage of repeats)"),
+        _ => String::new(),
     }
 }
 
@@ -51,12 +61,12 @@ impl Pair<'_> {
         if let (Step::Call(call), (Some(answer), Some(right))) = (step, answers)
             && answer != right
         {
-            return Err(answers_differ(call, answer, right));
+            return Err(answers_differ(call, answer, right, &before));
         }
         let (image, right_image) = (self.tried.image(), self.right.image());
         if let Some(at) = first_difference(&image, &right_image) {
             return Err(match at < IMAGE_GRANTED_CYCLES {
-                true => differs("image byte", at, image[at].into(), right_image[at].into()),
+                true => differs("image byte", at, image[at].into(), right_image[at].into()) + &remark(&right_image),
                 false => {
                     let [count, right] = [image, right_image].map(|image| count_of(&image));
                     format!("the count of granted cycles is {count}, by the calls and their grants {right}")
@@ -73,9 +83,10 @@ impl Pair<'_> {
         self.touched(&image)
     }
 
-    /// The two bytes that an image's transfer points at.
+    /// The two bytes that an image's transfer points at. (Of an image before, the storage may have another size by now.)
     fn touched(&self, image: &Image) -> Result<(), String> {
         let (addr, offset) = places(image);
+        let offset = offset % self.right.storage().len();
         let (byte, right) = (self.tried.bus()[addr], self.right.bus()[addr]);
         if byte != right {
             return Err(differs("bus byte", addr, byte.into(), right.into()));
@@ -87,8 +98,10 @@ impl Pair<'_> {
         Ok(())
     }
 
-    /// Every byte of both memories.
+    /// Every byte of both memories. That the original's repeats are still equal is the comparison's own affair, and is
+    /// looked at here too: one that was left behind would be compared no more.
     pub fn whole(&self) -> Result<(), String> {
+        assert!(self.right.repeats_hold(), "the original has changed a byte that was not repeated");
         let memories = [
             ("bus byte", self.tried.bus(), self.right.bus()),
             ("storage byte", self.tried.storage(), self.right.storage()),
@@ -135,12 +148,14 @@ pub struct Run {
     pub lists: u64,
     pub at_top: AtTop,
     pub at_tops: AtTops,
+    pub at_sizes: AtSizes,
     seed: u64,
 }
 
 impl Run {
     pub fn new(seed: u64) -> Self {
-        Self { calls: 0, lists: 0, at_top: AtTop::default(), at_tops: AtTops::default(), seed }
+        let (at_top, at_tops, at_sizes) = Default::default();
+        Self { calls: 0, lists: 0, at_top, at_tops, at_sizes, seed }
     }
 
     /// Compares at least `calls` further calls.
@@ -175,15 +190,26 @@ impl Run {
         }
     }
 
-    /// One list: from new, with full lengths, or from any accepted images, by its number.
+    /// An error if the run is a full one and has not met all that there is to meet at each size.
+    pub fn has_met_the_sizes(&self) -> Result<(), String> {
+        match self.at_sizes.missing() {
+            missing if self.calls < FULL_RUN || missing.is_empty() => Ok(()),
+            missing => {
+                Err(format!("compare: so long a run must meet each at each size; missing: {}", missing.join(", ")))
+            }
+        }
+    }
+
+    /// One list: from new, with full lengths, or from any accepted images, by its number. Its size is set first.
     fn list(&mut self, pair: &mut Pair, seed: u64, steps: &mut Vec<Step>) -> Result<(), String> {
         let long = self.lists % LONG_EVERY == LONG_EVERY / 2;
         let images = !long && self.lists % 3 == 2;
         let kind = (self.lists / LONG_EVERY % 4) as u8;
         let mut generator = if long { Generator::long(seed, kind) } else { Generator::new(seed) };
         let (calls, at_top, at_tops) = (&mut self.calls, &mut self.at_top, &mut self.at_tops);
-        let mut steps = Kept { steps, calls, at_top, at_tops };
-        for start in [Step::Image([0; IMAGE]), Step::Memory(generator.seed()), Step::Call(Call::New)] {
+        let mut steps = Kept { steps, calls, at_top, at_tops, at_sizes: &mut self.at_sizes };
+        let [new, set] = [Call::New, Call::SetSize { size: generator.size() as u64 }].map(Step::Call);
+        for start in [Step::Image(BLANK), Step::Memory(generator.seed()), new, set] {
             steps.step(pair, start)?;
         }
         for at in 0..if long { LONG_LIST } else { LIST } {
@@ -201,13 +227,14 @@ impl Run {
     }
 }
 
-/// Keeps each step before it is done, and counts the calls among them, those at the top of the count and those at the tops
-/// of the addresses.
+/// Keeps each step before it is done, and counts the calls among them, those at the top of the count, those at the tops of
+/// the addresses, and those at each size.
 struct Kept<'a> {
     steps: &'a mut Vec<Step>,
     calls: &'a mut u64,
     at_top: &'a mut AtTop,
     at_tops: &'a mut AtTops,
+    at_sizes: &'a mut AtSizes,
 }
 
 impl Kept<'_> {
@@ -217,6 +244,7 @@ impl Kept<'_> {
             *self.calls += 1;
             self.at_top.look(pair.right, call);
             self.at_tops.look(pair.right, call);
+            self.at_sizes.look(pair.right, call);
         }
         pair.step(step)
     }

@@ -3,7 +3,7 @@
 use crate::calls::Call;
 use crate::sides::Lent;
 
-/// The fifteen calls over a copy.
+/// The sixteen calls over a copy.
 pub type CallOn = fn(Call, Lent) -> u32;
 
 include!(concat!(env!("OUT_DIR"), "/copies.rs"));

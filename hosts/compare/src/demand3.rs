@@ -7,7 +7,7 @@ use crate::granted::granted;
 use crate::passed::parted;
 use crate::refusals::Refuser;
 use crate::rng::{Rng, noise};
-use crate::sides::{BUS, Image, Machine, STORAGE, register};
+use crate::sides::{BUS, Image, Machine, register, set_number};
 use reu::*;
 
 /// One machine on its way through a list, with the bytes that both runs begin with.
@@ -30,9 +30,16 @@ fn check(holds: bool, what: &str) -> Result<(), String> {
     if holds { Ok(()) } else { Err(format!("demand 3: {what}")) }
 }
 
-/// Any accepted image that is unfixed, attached, unarmed and idle, with this length.
-fn start_image(generator: &mut Generator, length: [u8; 2]) -> Image {
+/// Any accepted image that is unfixed, attached, unarmed and idle, with this length. In one of two the block begins so that
+/// it passes an end of the storage, the last one, which is $FFFFFF, among them, if it has more than one byte.
+fn start_image(generator: &mut Generator, rng: &mut Rng, length: [u8; 2]) -> Image {
     let mut image = generator.image();
+    if rng.one_in(2) {
+        let (size, reach) = (generator.size(), usize::from(length[0]).clamp(2, 40) - 1);
+        let end = size * rng.pick(&[1, 2, 3, (1 << 24) / size]);
+        let bytes = register(EXPANSION_ADDRESS_LOW)..=register(EXPANSION_ADDRESS_BANK);
+        set_number(&mut image[bytes], (end - 1 - rng.below(reach)) as u32);
+    }
     image[register(ADDRESS_CONTROL)] &= 0x3F;
     image[IMAGE_FLAGS] = (image[IMAGE_FLAGS] | FLAG_ATTACHED) & !FLAG_ARMED;
     image[IMAGE_TRANSFER..IMAGE_GRANTED_CYCLES].fill(0);
@@ -162,27 +169,32 @@ impl Block {
     fn exchanged(&self, bus: &[u8], storage: &[u8]) -> (Vec<u8>, Vec<u8>) {
         let (mut bus, mut storage) = (bus.to_vec(), storage.to_vec());
         for at in 0..self.length {
-            let (addr, offset) = ((self.c64 + at) % BUS, (self.expansion + at) % STORAGE);
+            let (addr, offset) = ((self.c64 + at) % BUS, (self.expansion + at) % storage.len());
             std::mem::swap(&mut bus[addr], &mut storage[offset]);
         }
         (bus, storage)
     }
 }
 
-/// Both runs from one seed: A and B start from images of their own with equal memories.
-pub fn run(machine: &mut dyn Machine, mut refuser: Option<&mut dyn Refuser>, seed: u64) -> Result<(), String> {
+/// Both runs at this size from one seed: A and B start from images of their own with equal memories.
+pub fn run(
+    machine: &mut dyn Machine,
+    mut refuser: Option<&mut dyn Refuser>,
+    size: usize,
+    seed: u64,
+) -> Result<(), String> {
     let mut rng = Rng::new(seed);
-    let mut generator = Generator::new(rng.word());
+    let mut generator = Generator::at_size(rng.word(), size);
     // One run in eight is of full length or near it.
     let short = [rng.pick(&[1, 1, 2, 3, 7, 40]), 0];
     let length = if rng.one_in(8) { rng.pick(&[[0, 0], [0xFF, 0xFF], [0, 1], [1, 1]]) } else { short };
-    let (mut bus, mut storage) = (vec![0; BUS], vec![0; STORAGE]);
+    let (mut bus, mut storage) = (vec![0; BUS], vec![0; size]);
     noise(&mut bus, rng.word());
     noise(&mut storage, rng.word());
     for a in [true, false] {
+        machine.load(&start_image(&mut generator, &mut rng, length));
         machine.bus_mut().copy_from_slice(&bus);
         machine.storage_mut().copy_from_slice(&storage);
-        machine.load(&start_image(&mut generator, length));
         let (bus, storage) = (bus.clone(), storage.clone());
         let refuser = refuser.as_mut().map(|refuser| &mut **refuser as &mut dyn Refuser);
         let mut walk = Walk { machine, refuser, rng: &mut rng, bus, storage };

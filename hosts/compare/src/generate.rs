@@ -6,6 +6,7 @@ use crate::granted::TOP;
 use crate::remaining::{remaining, set_remaining};
 use crate::rng::Rng;
 use crate::sides::{IMAGE, Image, places, set_number};
+use crate::sizes::{NEAR, SIZES, lay_size, size_of};
 use reu::*;
 
 /// How the BA inputs of a list move.
@@ -24,10 +25,18 @@ enum Ba {
 const QUIET: [usize; 4] = [4, 12, 40, 400];
 const FLAGS: [u32; 8] = [1, 2, 3, 0x80, 0x100, 0x1_0000, 0x8000_0000, u32::MAX];
 const LENGTHS: [u16; 18] = [1, 1, 1, 1, 2, 2, 2, 3, 3, 4, 5, 8, 17, 255, 256, 257, 0, 0xFFFF];
-/// The top of each address, and where something happens.
-const C64: (u32, &[u32]) = (0xFFFF, &[0x0000, 0x1000, 0x1000, 0x10FF, 0x2000, 0xFEFF, 0xFF00, 0xFFFD, 0xFFFE, 0xFFFF]);
-const EXPANSION: (u32, &[u32]) =
-    (0xFF_FFFF, &[0, 0, 1, 0xFFFF, 0x7FFFE, 0x7FFFF, 0x80000, 0xF7FFFF, 0xFFFFFE, 0xFFFFFF]);
+/// Of six lists four have the original's size.
+const LIST_SIZES: [usize; 6] = [SIZES[0], SIZES[0], SIZES[0], SIZES[0], SIZES[1], SIZES[2]];
+/// The tops of both addresses, and where something happens.
+const C64_TOP: u32 = 0xFFFF;
+const C64: [u32; 10] = [0x0000, 0x1000, 0x1000, 0x10FF, 0x2000, 0xFEFF, 0xFF00, 0xFFFD, 0xFFFE, 0xFFFF];
+const EXPANSION_TOP: u32 = 0xFF_FFFF;
+
+/// The ends of a storage of this size, the first and later ones, among other places where something happens.
+fn expansions(size: usize) -> [u32; 11] {
+    let size = size as u32;
+    [0, 0, 1, 0xFFFF, size - 2, size - 1, size, 3 * size - 1, 0xF7_FFFF, 0xFF_FFFE, 0xFF_FFFF]
+}
 
 pub struct Generator {
     rng: Rng,
@@ -41,6 +50,9 @@ pub struct Generator {
     lengths: &'static [u16],
     /// The type of every planned command, and that it starts at once; else each is drawn.
     kind: Option<u8>,
+    /// The size of the list's storage, and whether others come in between.
+    size: usize,
+    other_sizes: bool,
 }
 
 impl Generator {
@@ -57,9 +69,21 @@ impl Generator {
             wild_flags: rng.one_in(2),
             lengths: &LENGTHS,
             kind: None,
+            size: rng.pick(&LIST_SIZES),
+            other_sizes: true,
             plan: Vec::new(),
             rng,
         }
+    }
+
+    /// The same at this size alone: no image has another, and none is set but in settings that are refused.
+    pub fn at_size(seed: u64, size: usize) -> Self {
+        Self { size, other_sizes: false, ..Self::new(seed) }
+    }
+
+    /// The size that a list begins with.
+    pub fn size(&self) -> usize {
+        self.size
     }
 
     /// Lists of commands of full length and one type, little disturbed.
@@ -145,7 +169,7 @@ impl Generator {
 
     /// An address at which a block of so many bytes begins, 0 for 65,536: one in three so that one of its first four bytes
     /// is at the top, of the others one in `wild` anywhere, and the rest where something happens.
-    fn address(&mut self, (top, happens): (u32, &[u32]), length: u32, wild: usize) -> u32 {
+    fn address(&mut self, top: u32, happens: &[u32], length: u32, wild: usize) -> u32 {
         let any = self.rng.word() as u32 & top;
         let reach = if length == 0 { 4 } else { length.min(4) as usize };
         match self.rng.one_in(3) {
@@ -155,11 +179,17 @@ impl Generator {
         }
     }
 
+    /// Both addresses of a block in a machine of this size.
+    fn addresses(&mut self, size: usize, length: u32, wild: usize) -> [u32; 2] {
+        let c64 = self.address(C64_TOP, &C64, length, wild);
+        [c64, self.address(EXPANSION_TOP, &expansions(size), length, wild)]
+    }
+
     /// Plans a command: some or all registers in any order, COMMAND, and perhaps its trigger.
     fn plan_command(&mut self) {
         let any = self.rng.word();
         let length = self.rng.pick(self.lengths);
-        let [c64, expansion] = [C64, EXPANSION].map(|kind| self.address(kind, length.into(), 8));
+        let [c64, expansion] = self.addresses(self.size, length.into(), 8);
         let control = self.rng.pick(&[0, 0, 0, 0x40, 0x80, 0xC0, any as u8]);
         let mask = self.rng.pick(&[0, 0x20, 0x40, 0xA0, 0xC0, 0xE0, any as u8]);
         let ([c64_low, c64_high, ..], [low, high, bank, _]) = (c64.to_le_bytes(), expansion.to_le_bytes());
@@ -198,16 +228,16 @@ impl Generator {
         Step::Bus((places(image).0 as u16).wrapping_add(ahead), value)
     }
 
-    /// Any of the fifteen calls, or a byte of the bus.
+    /// Any of the sixteen calls, or a byte of the bus.
     pub fn anything(&mut self, image: &Image) -> Step {
         let place = self.rng.below(NAMES.len() + 12);
         match place {
             0..=2 if self.rng.below(4) != 0 => Step::Call(self.cycle_call()),
-            0..15 => Step::Call(self.call(place)),
-            15..=16 => self.write_any(1),
-            17..=18 => self.write_any(9),
-            19..=20 => self.touch_bus(image),
-            21..=22 => Step::Call(Call::Read { addr: self.addr(0) }),
+            0..16 => Step::Call(self.call(place)),
+            16..=17 => self.write_any(1),
+            18..=19 => self.write_any(9),
+            20..=21 => self.touch_bus(image),
+            22..=23 => Step::Call(Call::Read { addr: self.addr(0) }),
             _ => Step::Call(self.cycle_call()),
         }
     }
@@ -217,7 +247,19 @@ impl Generator {
         self.write(index, value)
     }
 
-    /// The call at a place among the fifteen, with any arguments.
+    /// A size that may be set, one that nearly may, or any number.
+    fn any_size(&mut self) -> u64 {
+        let (good, any) = (self.rng.pick(&SIZES) as u64, self.rng.word());
+        let size = match self.rng.below(8) {
+            0..=3 => good,
+            4..=5 => self.rng.pick(&NEAR),
+            _ => self.rng.pick(&[any, 1 << (any % 64), good ^ (1 << (any % 64))]),
+        };
+        let other = SIZES.iter().any(|known| *known as u64 == size) && !self.other_sizes;
+        if other { self.size as u64 } else { size }
+    }
+
+    /// The call at a place among the sixteen, with any arguments.
     pub fn call(&mut self, place: usize) -> Call {
         let index = self.rng.below(32) as u8;
         let any = self.rng.word();
@@ -245,6 +287,7 @@ impl Generator {
             }
             "c64_access" => Call::C64Access,
             "tick_dma" => Call::TickDma { cycle: self.next_cycle(), ba_low: self.any_flag() },
+            "set_size" => Call::SetSize { size: self.any_size() },
             _ => {
                 let (ba_high, ba_low, ba_high_phi1) = (self.any_flag(), self.any_flag(), self.any_flag());
                 Call::RunReuCycle { ba_high, cycle: self.next_cycle(), ba_low, ba_high_phi1 }
@@ -276,6 +319,9 @@ impl Generator {
         if !cuts_in && (running || self.rng.one_in(3)) {
             return Step::Call(self.cycle_call());
         }
+        if !attached && size_of(image) != Some(self.size) && self.rng.below(8) != 0 {
+            return Step::Call(Call::SetSize { size: self.size as u64 });
+        }
         if !attached && self.rng.below(8) != 0 {
             return Step::Call(Call::SetEnabled { enabled: self.flag(true) });
         }
@@ -293,8 +339,10 @@ impl Generator {
         if self.rng.one_in(2) {
             image[IMAGE_FLAGS] &= FLAG_ENABLED | FLAG_INTERRUPT | FLAG_ATTACHED | FLAG_BA_WAS_HIGH;
         }
+        let size = if self.other_sizes && self.rng.one_in(8) { self.rng.pick(&SIZES) } else { self.size };
+        lay_size(&mut image, size);
         if image[IMAGE_TRANSFER] == 1 {
-            self.image_transfer(&mut image);
+            self.image_transfer(&mut image, size);
         }
         // Counts where one more carries into each byte, and at or near the top, where some cycles bring it there.
         let (any, near) = (self.rng.word() as u32, self.rng.below(4) as u32);
@@ -317,14 +365,14 @@ impl Generator {
     }
 
     /// The transfer, and the attached flag that it needs.
-    fn image_transfer(&mut self, image: &mut Image) {
+    fn image_transfer(&mut self, image: &mut Image, size: usize) {
         image[IMAGE_FLAGS] |= FLAG_ATTACHED;
         image[IMAGE_TYPE] = self.rng.below(4) as u8;
         image[IMAGE_PHASE] = u8::from(image[IMAGE_TYPE] == SWAP && self.rng.one_in(2));
         let any = self.rng.word();
         let length = u32::from(self.rng.pick(&LENGTHS)).max(1);
         let remaining = self.rng.pick(&[1, 1, 2, 2, 3, length, 255, 256, 65_535, 65_536, 1 + (any >> 48) as u32]);
-        let [c64, expansion] = [C64, EXPANSION].map(|kind| self.address(kind, remaining, 2));
+        let [c64, expansion] = self.addresses(size, remaining, 2);
         set_number(&mut image[IMAGE_C64_ADDRESS..IMAGE_EXPANSION_ADDRESS], c64);
         set_number(&mut image[IMAGE_EXPANSION_ADDRESS..IMAGE_REMAINING], expansion);
         set_remaining(image, remaining);

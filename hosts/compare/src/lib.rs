@@ -21,6 +21,7 @@ pub mod rng;
 pub mod sessions;
 pub mod shrink;
 pub mod sides;
+pub mod sizes;
 
 /// The seed of what must be the same each time: the recorded list and the planted bugs. A run draws its own.
 pub const SEED: u64 = 8726;

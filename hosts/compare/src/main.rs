@@ -5,14 +5,17 @@ use compare::port::Library;
 use compare::refusals::{Refusals, Refuser};
 use compare::rng::drawn_seed;
 use compare::sides::{Held, Machine, Port};
-use compare::{demand3, record, sessions};
+use compare::sizes::SIZES;
+use compare::{demand3, record, sessions, sizes};
 use std::process::ExitCode;
 use std::str::FromStr;
 
 /// The list that was recorded, as it stands in the repository.
 const RECORDED: &str = include_str!("../recorded/original.txt");
 const CALLS: u64 = 10_000_000;
+/// Of so many runs of demand 3 half are at the original's size, the others at the two smaller ones.
 const DEMAND3_RUNS: u64 = 200;
+const DEMAND3_SIZES: [usize; 4] = [SIZES[0], SIZES[1], SIZES[0], SIZES[2]];
 
 const HELP: &str = "\
 compare [--calls N] [--seed N]     run the library and the original side by side, from a new seed if none is given
@@ -74,7 +77,7 @@ fn by_seed(options: &Options, parts: impl FnOnce(u64, u64) -> Result<(), String>
     }
 }
 
-/// Sessions and demand 3 on one machine, with refused calls among the lists if there is something to refuse them.
+/// Sessions, sizes and demand 3 on one machine, with refused calls among the lists if there is something to refuse them.
 fn alone(
     side: &str,
     machine: &mut dyn Machine,
@@ -86,10 +89,12 @@ fn alone(
             return Err(format!("{side}: recorded session R{number} comes out otherwise"));
         }
     }
-    for run in 0..DEMAND3_RUNS {
+    let (settings, blocks) = sizes::run(machine, seed).map_err(|what| format!("{side}: {what}"))?;
+    println!("{side}: {settings} settings of a size by the rule, {blocks} blocks over the ends of {SIZES:?} bytes");
+    for (run, size) in (0..DEMAND3_RUNS).zip(DEMAND3_SIZES.into_iter().cycle()) {
         let refuser = refuser.as_mut().map(|refuser| &mut **refuser as &mut dyn Refuser);
-        let done = demand3::run(machine, refuser, list_seed(seed, run));
-        done.map_err(|what| format!("{side}: in run {run} of demand 3 from seed {seed}: {what}"))?;
+        let done = demand3::run(machine, refuser, size, list_seed(seed, run));
+        done.map_err(|what| format!("{side}: in run {run} of demand 3 from seed {seed}, {size} bytes: {what}"))?;
     }
     println!(
         "{side}: {} recorded sessions come out as recorded, {DEMAND3_RUNS} runs of demand 3 hold",
@@ -141,7 +146,9 @@ mod with_original {
             println!("compare: {calls} calls agree, in {lists} lists");
             println!("compare: {reached} granted cycles brought the count to its top, {held} came when it was there");
             println!("compare: calls at the tops of the addresses: {}", run.at_tops.told());
-            return run.has_met_the_top().and_then(|()| run.has_met_the_tops());
+            run.at_sizes.told().iter().for_each(|line| println!("compare: {line}"));
+            println!("compare: below {} bytes there is no original: it ran on a storage of repeats", SIZES[0]);
+            return run.has_met_the_top().and(run.has_met_the_tops()).and(run.has_met_the_sizes());
         };
         let disagree = format!("compare: the library and the original disagree after {calls} calls: {}", found.what);
         Err(format!("{disagree}\n{}", short(&mut pair, *found, bug)))

@@ -43,6 +43,12 @@ fn found<'a>(call: Call, before: &'a Image, granted: Option<&'a Image>) -> Optio
     if matches!(call, Call::TickDma { .. }) { Some(before) } else { granted }
 }
 
+/// Whether a call completes a byte, by what the controller was before it and this machine's grant.
+pub fn completes_byte(machine: &mut dyn Machine, call: Call, before: &Image) -> bool {
+    let granted = granted(machine, call);
+    found(call, before, granted.as_ref()).is_some_and(completes)
+}
+
 /// The marks of a call: of a byte that is completed, for each address that is at its top and not fixed. `granted` is what
 /// the grant of a cycle has left, if it is Transfer.
 pub fn marks(call: Call, before: &Image, granted: Option<&Image>) -> u32 {

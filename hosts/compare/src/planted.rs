@@ -14,16 +14,17 @@ use crate::reference::Original;
 use crate::refusals::Refusals;
 use crate::remaining::EARLIER;
 use crate::sides::{Held, IMAGE, Image, Lent, Port, REFUSAL, register};
-use crate::{demand3, sessions};
+use crate::sizes::SIZES;
+use crate::{demand3, sessions, sizes};
 use reu::*;
 use std::panic::{AssertUnwindSafe, catch_unwind};
 use table::PLANTED;
 
-/// Calls that the random run has to catch a bug, and the seeds of demand 3's runs.
+/// Calls that the random run has to catch a bug, and the seeds of demand 3's runs at each size.
 const CALLS: u64 = 200_000;
 const DEMAND3_SEEDS: [u64; 4] = [0, 1, 2, 3];
 
-/// A stand-in for the library: the fifteen calls over a copy of the original.
+/// A stand-in for the library: the sixteen calls over a copy of the original.
 #[derive(Clone, Copy)]
 pub struct Standin(pub CallOn);
 
@@ -165,7 +166,12 @@ fn random_run(standin: CallOn, calls: &mut u64) -> Result<(), String> {
 fn demand3_runs(standin: CallOn) -> Result<(), String> {
     let mut refuser = Refusals::new(Standin(standin), crate::SEED);
     let mut machine = Held::new(Standin(standin));
-    DEMAND3_SEEDS.into_iter().try_for_each(|seed| demand3::run(&mut machine, Some(&mut refuser), seed))
+    let mut runs = SIZES.into_iter().flat_map(|size| DEMAND3_SEEDS.map(|seed| (size, seed)));
+    runs.try_for_each(|(size, seed)| demand3::run(&mut machine, Some(&mut refuser), size, seed))
+}
+
+fn sizes_alone(standin: CallOn) -> Result<(), String> {
+    sizes::run(&mut Held::new(Standin(standin)), crate::SEED).map(drop)
 }
 
 fn broken_sessions(standin: CallOn) -> Vec<usize> {
@@ -182,9 +188,12 @@ fn caught_in_runs(standin: CallOn) -> Option<String> {
     }
     let mut refusals = Refusals::new(Standin(standin), crate::SEED);
     let what = caught_by(|| refusals.run())?;
-    // The lengths and the image that follow are too long for a line.
-    let brief = what.split(';').next().unwrap_or_default();
-    Some(format!("after {} refused calls: {brief}", refusals.calls))
+    Some(format!("after {} refused calls: {}", refusals.calls, brief(&what)))
+}
+
+/// What was found, without the lengths and the image that follow: they are too long for a line.
+fn brief(what: &str) -> &str {
+    what.split(';').next().unwrap_or_default()
 }
 
 /// How a stand-in is caught by all the parts; none if it is not, or not by what must break.
@@ -198,7 +207,8 @@ fn how_caught(standin: CallOn, breaks: Breaks) -> Option<String> {
     };
     let names: Vec<String> = sessions.iter().map(|number| format!("R{number}")).collect();
     let broken = (!names.is_empty()).then(|| format!("breaks {}", names.join(" ")));
-    let ways: Vec<String> = [caught_in_runs(standin), broken, demand3].into_iter().flatten().collect();
+    let sizes = caught_by(|| sizes_alone(standin)).map(|what| brief(&what).into());
+    let ways: Vec<String> = [caught_in_runs(standin), broken, sizes, demand3].into_iter().flatten().collect();
     (holds && !ways.is_empty()).then(|| ways.join("; "))
 }
 

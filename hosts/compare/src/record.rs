@@ -1,7 +1,8 @@
 //! The recorded list: what the original answered, and what it changed, call by call. The original has neither the count of
 //! granted cycles nor the marks of an address that passes its top: they are recorded with it as `granted.rs` and `passed.rs`
 //! have them, so that a host without the original still compares both. The marks stand apart, so that the answer is the
-//! original's own.
+//! original's own. Nor has it a size to set: what `set_size` answers is `sizes.rs`'s. All that is recorded is at the
+//! original's own size, and no other is set.
 //!
 //! A line is a step as `calls.rs` writes it; a call's line goes on with `= ANSWER`, with `+MARKS` if it has any, and with
 //! what has changed: `N:BYTE` of the image, `bADDR:BYTE` of the bus, `sOFFSET:BYTE` of the storage. `sum BUS STORAGE` gives
@@ -11,7 +12,8 @@ use crate::calls::{Call, Step};
 use crate::compare::list_seed;
 use crate::generate::Generator;
 use crate::passed::parted;
-use crate::sides::{IMAGE, Machine, places};
+use crate::sides::{Machine, STORAGE, places};
+use crate::sizes::BLANK;
 use reu::IMAGE_GRANTED_CYCLES;
 
 /// The lists of a record, one in four from any accepted images, and the steps of each.
@@ -34,7 +36,8 @@ fn sums(machine: &dyn Machine) -> String {
 fn tell(machine: &mut dyn Machine, step: Step) -> String {
     let before = machine.image();
     let (addr, offset) = places(&before);
-    let (bus, storage) = (machine.bus()[addr], machine.storage()[offset]);
+    let stored = |machine: &dyn Machine| machine.storage().get(offset).copied();
+    let (bus, storage) = (machine.bus()[addr], stored(machine));
     let (mut line, answer) = (step.to_string(), machine.step(step));
     let (Step::Call(call), Some(answer)) = (step, answer) else { return line };
     let (answer, marks) = parted(call, answer);
@@ -48,15 +51,15 @@ fn tell(machine: &mut dyn Machine, step: Step) -> String {
     if machine.bus()[addr] != bus {
         line += &format!(" b{addr:04x}:{:02x}", machine.bus()[addr]);
     }
-    if machine.storage()[offset] != storage {
-        line += &format!(" s{offset:05x}:{:02x}", machine.storage()[offset]);
+    if let (Some(byte), true) = (stored(machine), stored(machine) != storage) {
+        line += &format!(" s{offset:05x}:{byte:02x}");
     }
     line
 }
 
 /// Plays the recorded list; the count of its calls, or the first line that this machine tells otherwise.
 pub fn replay(machine: &mut dyn Machine, list: &str) -> Result<u64, String> {
-    machine.load(&[0; IMAGE]);
+    machine.load(&BLANK);
     let mut calls = 0;
     for (at, line) in list.lines().enumerate().filter(|(_, line)| !line.starts_with('#')) {
         let text = line.split(" = ").next().unwrap_or_default();
@@ -79,10 +82,10 @@ pub fn replay(machine: &mut dyn Machine, list: &str) -> Result<u64, String> {
 
 /// Records lists from new and from any accepted images.
 pub fn record(machine: &mut dyn Machine, seed: u64) -> String {
-    machine.load(&[0; IMAGE]);
+    machine.load(&BLANK);
     let (mut text, mut calls) = (String::new(), 0);
     for list in 0..LISTS {
-        let mut generator = Generator::new(list_seed(seed, list));
+        let mut generator = Generator::at_size(list_seed(seed, list), STORAGE);
         let start = [Step::Memory(generator.seed()), Step::Call(Call::New)];
         for at in 0..LIST {
             let image = machine.image();
@@ -102,6 +105,7 @@ pub fn record(machine: &mut dyn Machine, seed: u64) -> String {
         "# What the original answers to {calls} calls: made from its Rust, compiled unchanged, by\n\
          # `{how}`. src/record.rs says how a line is read.\n\
          # Image bytes from {IMAGE_GRANTED_CYCLES} on, the count of granted cycles, are src/granted.rs's, and +2, +4 and +6\n\
-         # behind an answer, the marks of an address that passed its top, src/passed.rs's.\n{text}"
+         # behind an answer, the marks of an address that passed its top, src/passed.rs's. What set_size answers is\n\
+         # src/sizes.rs's; the original's only size, {STORAGE}, is the only one that is set.\n{text}"
     )
 }

@@ -5,7 +5,8 @@ use crate::calls::{Call, NAMES};
 use crate::generate::Generator;
 use crate::remaining::{EARLIER, earlier, set_remaining};
 use crate::rng::{Rng, noise};
-use crate::sides::{BUS, IMAGE, Image, Lent, Port, REFUSAL, STORAGE};
+use crate::sides::{BUS, IMAGE, Image, Lent, Port, REFUSAL, STORAGE, register};
+use crate::sizes::{NEAR, SIZES, lay_size, size_of};
 use reu::*;
 use std::alloc::{Layout, alloc_zeroed, dealloc};
 
@@ -82,7 +83,12 @@ struct Lengths {
     storage: usize,
 }
 
-const RIGHT: Lengths = Lengths { image: IMAGE, bus: BUS, storage: STORAGE };
+impl Lengths {
+    /// The right ones for this image; the storage's is the size that it sets. (With none it is refused for that.)
+    fn of(image: &Image) -> Self {
+        Self { image: IMAGE, bus: BUS, storage: size_of(image).unwrap_or(STORAGE) }
+    }
+}
 
 impl<P: Port> Refusals<P> {
     pub fn new(port: P, seed: u64) -> Self {
@@ -124,23 +130,69 @@ impl<P: Port> Refusals<P> {
         self.generator.call(place)
     }
 
-    /// Every wrong length of every buffer, up to twice the right one and beyond.
+    /// An accepted image of this size.
+    fn sized(&mut self, size: usize) -> Image {
+        let mut image = self.generator.image();
+        lay_size(&mut image, size);
+        image
+    }
+
+    /// Every wrong length of image and bus, up to twice the right one and beyond.
     fn lengths(&mut self) -> Result<(), String> {
         for place in 0..NAMES.len() {
             let image = self.generator.image();
             self.image.set(&image);
-            let call = self.generator.call(place);
+            let (call, right) = (self.generator.call(place), Lengths::of(&image));
             for image in (0..4096).filter(|length| *length != IMAGE) {
-                self.refused(call, Lengths { image, ..RIGHT })?;
+                self.refused(call, Lengths { image, ..right })?;
             }
             for bus in (0..=2 * BUS).filter(|length| call.lends_bus() && *length != BUS) {
-                self.refused(call, Lengths { bus, ..RIGHT })?;
-            }
-            for storage in (0..=2 * STORAGE).filter(|length| call.lends_storage() && *length != STORAGE) {
-                self.refused(call, Lengths { storage, ..RIGHT })?;
+                self.refused(call, Lengths { bus, ..right })?;
             }
         }
         Ok(())
+    }
+
+    /// Every wrong length of the storage at each size, up to twice the right one, and the other sizes beyond.
+    fn storage_lengths(&mut self) -> Result<(), String> {
+        for (place, size) in (0..NAMES.len()).flat_map(|place| SIZES.map(|size| (place, size))) {
+            let image = self.sized(size);
+            self.image.set(&image);
+            let (call, right) = (self.generator.call(place), Lengths::of(&image));
+            let lengths = (0..=2 * size).chain(SIZES).filter(|length| call.lends_storage() && *length != size);
+            for storage in lengths {
+                self.refused(call, Lengths { storage, ..right })?;
+            }
+        }
+        Ok(())
+    }
+
+    /// Settings of a size, with every set of faults: a wrong length, a bad field, no size, an attached storage.
+    fn settings(&mut self) -> Result<(), String> {
+        let sizes = SIZES
+            .into_iter()
+            .flat_map(|set| SIZES.map(|size| size as u64).into_iter().chain(NEAR).map(move |size| (set, size)));
+        for ((set, size), faults) in sizes.flat_map(|sizes| (0..8).map(move |faults| (sizes, faults))) {
+            let mut image = self.generator.image();
+            image[IMAGE_TRANSFER..IMAGE_GRANTED_CYCLES].fill(0); // without a transfer it may be attached or not
+            lay_size(&mut image, set);
+            image[IMAGE_FLAGS] =
+                (image[IMAGE_FLAGS] & !FLAG_ATTACHED) | if faults & 1 != 0 { FLAG_ATTACHED } else { 0 };
+            image[IMAGE_DELAY] = if faults & 2 != 0 { 3 } else { 0 };
+            self.image.set(&image);
+            let lengths = Lengths { image: if faults & 4 != 0 { IMAGE - 1 } else { IMAGE }, ..Lengths::of(&image) };
+            self.if_refused(Call::SetSize { size }, lengths)?;
+        }
+        Ok(())
+    }
+
+    /// The same as [`Self::refused`], of a call that may be accepted: then it is not made.
+    fn if_refused(&mut self, call: Call, lengths: Lengths) -> Result<(), String> {
+        let image = self.image.lend(lengths.image);
+        match refusal(call, image, lengths.bus, lengths.storage) {
+            0 => Ok(()),
+            _ => self.refused(call, lengths),
+        }
     }
 
     /// The lengths that an image had before, whatever is in it: what was laid down then, and anything else.
@@ -152,7 +204,7 @@ impl<P: Port> Refusals<P> {
                 self.image.set(&bytes);
                 for (place, image) in (0..NAMES.len()).flat_map(|place| EARLIER.map(|length| (place, length))) {
                     let call = self.generator.call(place);
-                    self.refused(call, Lengths { image, ..RIGHT })?;
+                    self.refused(call, Lengths { image, bus: BUS, storage: STORAGE })?;
                 }
             }
         }
@@ -168,10 +220,10 @@ impl<P: Port> Refusals<P> {
             println!("refusals: no room for lengths beyond 2^32: left out");
             return Ok(());
         }
-        let image = self.generator.image();
-        self.image.set(&image);
         let mut done = Ok(());
         for (place, number) in (0..NAMES.len()).flat_map(|place| [1, 3, 4].map(|number| (place, number))) {
+            let image = self.generator.image();
+            self.image.set(&image);
             // SAFETY: so many bytes were allocated and set to 0, and nothing else points at them.
             let huge = unsafe { std::slice::from_raw_parts_mut(start, HUGE + STORAGE) };
             done = done.and_then(|()| self.huge_length(place, number, huge));
@@ -187,12 +239,14 @@ impl<P: Port> Refusals<P> {
         if (number == 3 && !call.lends_bus()) || (number == 4 && !call.lends_storage()) {
             return Ok(());
         }
-        let (image, bus, storage) = (self.image.lend(IMAGE), self.bus.lend(BUS), self.storage.lend(STORAGE));
+        let image = self.image.lend(IMAGE);
+        let size = size_of(image).expect("an accepted image has a size");
+        let (bus, storage) = (self.bus.lend(BUS), self.storage.lend(size));
         let mut lent = Lent { image, bus, storage };
         match number {
             1 => lent.image = &mut huge[..HUGE + IMAGE],
             3 => lent.bus = &mut huge[..HUGE + BUS],
-            _ => lent.storage = huge,
+            _ => lent.storage = &mut huge[..HUGE + size],
         }
         self.calls += 1;
         let answer = self.port.call(call, lent);
@@ -207,7 +261,7 @@ impl<P: Port> Refusals<P> {
         Err(format!("{call} with a length 2^32 too large {what}; image {image:02x?}"))
     }
 
-    /// One image, accepted or not, as all fifteen calls must see it.
+    /// One image, accepted or not, as all sixteen calls must see it.
     fn image(&mut self, image: &Image) -> Result<(), String> {
         self.image.set(image);
         if accepted(image) {
@@ -215,14 +269,15 @@ impl<P: Port> Refusals<P> {
         }
         for place in 1..NAMES.len() {
             let call = self.generator.call(place);
-            self.refused(call, RIGHT)?;
+            self.refused(call, Lengths::of(image))?;
         }
         self.new_on(image)
     }
 
     /// An accepted image is not refused. (What each call makes of it is compared with the original.)
     fn taken(&mut self, image: &Image) -> Result<(), String> {
-        let (lent, bus, storage) = (self.image.lend(IMAGE), self.bus.lend(BUS), self.storage.lend(STORAGE));
+        let Lengths { bus, storage, .. } = Lengths::of(image);
+        let (lent, bus, storage) = (self.image.lend(IMAGE), self.bus.lend(bus), self.storage.lend(storage));
         let answer = self.port.call(Call::DmaActive, Lent { image: lent, bus, storage });
         self.calls += 1;
         if answer == u32::from(image[IMAGE_TRANSFER]) {
@@ -244,12 +299,13 @@ impl<P: Port> Refusals<P> {
         if made[0] == made[1] { Ok(()) } else { Err(format!("new on {image:02x?} leaves {:02x?}", made[1])) }
     }
 
-    /// Every value of every byte behind the shadows, whether it has a range or is the count's, from several accepted
-    /// images; then several bytes at once.
+    /// Every value of STATUS, which has the size's mark, and of every byte behind the shadows, whether it has a range or is
+    /// the count's, from several accepted images of each size; then several bytes at once.
     fn fields(&mut self) -> Result<(), String> {
-        for _ in 0..BASES {
-            let base = self.generator.image();
-            for (at, value) in (IMAGE_FLAGS..IMAGE).flat_map(|at| (0..=255).map(move |value| (at, value))) {
+        for size in (0..BASES).map(|base| SIZES[base % SIZES.len()]) {
+            let base = self.sized(size);
+            let places = [register(STATUS)].into_iter().chain(IMAGE_FLAGS..IMAGE);
+            for (at, value) in places.flat_map(|at| (0..=255).map(move |value| (at, value))) {
                 let mut image = base;
                 image[at] = value;
                 self.image(&image)?;
@@ -270,12 +326,11 @@ impl<P: Port> Refusals<P> {
     fn crossed_fields(&mut self) -> Result<(), String> {
         for _ in 0..ROUNDS {
             let mut image = self.generator.image();
-            if image[IMAGE_TRANSFER] == 0 {
-                continue;
-            }
-            match self.rng.below(3) {
-                0 => image[IMAGE_FLAGS] &= !FLAG_ATTACHED,
-                1 => image[IMAGE_PHASE] ^= 1,
+            match self.rng.below(4) {
+                0 => image[register(STATUS)] ^= STATUS_VERSION,
+                _ if image[IMAGE_TRANSFER] == 0 => continue,
+                1 => image[IMAGE_FLAGS] &= !FLAG_ATTACHED,
+                2 => image[IMAGE_PHASE] ^= 1,
                 _ => image[IMAGE_TRANSFER_FLAGS] ^= TRANSFER_TAIL,
             }
             self.image(&image)?;
@@ -302,14 +357,20 @@ impl<P: Port> Refusals<P> {
     fn faults(&mut self, call: Call, faults: usize) -> Result<(), String> {
         let mut image = self.generator.image();
         if faults & 2 != 0 {
-            let before = [(IMAGE_MORE_FLAGS, 4), (IMAGE_DELAY, 3), (IMAGE_TRANSFER, 2)];
+            let sized = [
+                (IMAGE_MORE_FLAGS, 0x0C),
+                (IMAGE_MORE_FLAGS, 0x10),
+                (register(STATUS), image[register(STATUS)] ^ STATUS_VERSION),
+            ];
+            let before = [(IMAGE_MORE_FLAGS, 0x80), (IMAGE_DELAY, 3), (IMAGE_TRANSFER, 2)];
             let within = [(IMAGE_TRANSFER_FLAGS, 0x40), (IMAGE_PHASE, 2), (IMAGE_TYPE, 4)];
-            let (at, value) = self.rng.pick(&[before, within].concat());
+            let (at, value) = self.rng.pick(&[sized, before, within].concat());
             image[at] = value;
         }
         self.image.set(&image);
         let near = |rng: &mut Rng, right: usize| rng.pick(&[0, 1, right - 1, right + 1, right / 2, right * 2]);
-        let mut lengths = RIGHT;
+        let right = Lengths::of(&image);
+        let mut lengths = right;
         if faults & 1 != 0 {
             lengths.image = near(&mut self.rng, IMAGE);
         }
@@ -317,16 +378,12 @@ impl<P: Port> Refusals<P> {
             lengths.bus = near(&mut self.rng, BUS);
         }
         if faults & 8 != 0 {
-            lengths.storage = near(&mut self.rng, STORAGE);
+            lengths.storage = near(&mut self.rng, right.storage);
         }
         // What a call is not lent has its right length: nothing could be said about it.
-        lengths.bus = if call.lends_bus() { lengths.bus } else { BUS };
-        lengths.storage = if call.lends_storage() { lengths.storage } else { STORAGE };
-        let bytes = self.image.lend(lengths.image);
-        if refusal(call, bytes, lengths.bus, lengths.storage) == 0 {
-            return Ok(());
-        }
-        self.refused(call, lengths)
+        lengths.bus = if call.lends_bus() { lengths.bus } else { right.bus };
+        lengths.storage = if call.lends_storage() { lengths.storage } else { right.storage };
+        self.if_refused(call, lengths)
     }
 
     /// All of it.
@@ -337,10 +394,12 @@ impl<P: Port> Refusals<P> {
                 self.faults(call, faults)?;
             }
         }
+        self.settings()?;
         self.fields()?;
         self.earlier()?;
         self.huge_lengths()?;
         self.lengths()?;
+        self.storage_lengths()?;
         if self.unchanged() { Ok(()) } else { Err("a refused call has changed a byte".into()) }
     }
 }
@@ -349,10 +408,11 @@ impl<P: Port> Refuser for Refusals<P> {
     fn refuse(&mut self, image: &Image) -> Result<(), String> {
         let call = self.any_call();
         self.image.set(image);
+        let right = Lengths::of(image);
         let lengths = match self.rng.below(3) {
-            0 if call.lends_bus() => Lengths { bus: self.rng.below(BUS), ..RIGHT },
-            1 if call.lends_storage() => Lengths { storage: self.rng.below(STORAGE), ..RIGHT },
-            _ => Lengths { image: self.rng.below(IMAGE), ..RIGHT },
+            0 if call.lends_bus() => Lengths { bus: self.rng.below(BUS), ..right },
+            1 if call.lends_storage() => Lengths { storage: self.rng.below(right.storage), ..right },
+            _ => Lengths { image: self.rng.below(IMAGE), ..right },
         };
         self.refused(call, lengths)
     }

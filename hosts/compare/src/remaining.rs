@@ -6,7 +6,7 @@ use crate::compare::Pair;
 use crate::generate::Generator;
 use crate::rng::noise;
 use crate::shrink::begin;
-use crate::sides::{Image, number, places, set_number};
+use crate::sides::{Image, STORAGE, number, places, set_number};
 use reu::*;
 
 /// What a pair of 0 means.
@@ -47,9 +47,10 @@ fn cycle(number: u32) -> Step {
 }
 
 /// Each of the 65,536 pairs once, in an image that is drawn, the four types in turn and no tail: opened and laid down again
-/// by both sides, then as many ticks as complete a byte in any case. Answers how many pairs there were.
+/// by both sides, then as many ticks as complete a byte in any case. A storage's size has nothing to do with it and is the
+/// original's. Answers how many pairs there were.
 pub fn pairs(pair: &mut Pair, seed: u64) -> Result<u64, String> {
-    let mut generator = Generator::new(seed);
+    let mut generator = Generator::at_size(seed, STORAGE);
     begin(pair);
     pair.step(Step::Memory(generator.seed()))?;
     let mut pairs = 0;

@@ -5,7 +5,7 @@ use crate::sides::{Machine, STORAGE};
 
 /// A machine as the sessions use it: new, enabled, BA high.
 pub struct Desk<'a> {
-    machine: &'a mut dyn Machine,
+    pub machine: &'a mut dyn Machine,
     cycle: u64,
 }
 
@@ -31,15 +31,15 @@ impl<'a> Desk<'a> {
         desk
     }
 
-    fn read(&mut self, addr: u16) -> u32 {
+    pub fn read(&mut self, addr: u16) -> u32 {
         self.machine.call(Call::Read { addr })
     }
 
-    fn write(&mut self, register: u16, value: u8) {
+    pub fn write(&mut self, register: u16, value: u8) {
         self.machine.call(Call::Write { addr: 0xDF00 + register, value });
     }
 
-    fn shown(&mut self, index: u64) -> u32 {
+    pub fn shown(&mut self, index: u64) -> u32 {
         self.machine.call(Call::DebugRegister { index })
     }
 
@@ -47,12 +47,12 @@ impl<'a> Desk<'a> {
         looks.iter().all(|(index, value)| self.shown(*index) == *value)
     }
 
-    fn word(&mut self, low: u64) -> u32 {
+    pub fn word(&mut self, low: u64) -> u32 {
         self.shown(low) + 256 * self.shown(low + 1)
     }
 
     /// Writes both addresses and the length, the bank only if it is not 0.
-    fn program(&mut self, c64: u16, expansion: u32, length: u16) {
+    pub fn program(&mut self, c64: u16, expansion: u32, length: u16) {
         let ([c64_low, c64_high], [low, high, bank, _]) = (c64.to_le_bytes(), expansion.to_le_bytes());
         let [length_low, length_high] = length.to_le_bytes();
         let pairs = [(2, c64_low), (3, c64_high), (4, low), (5, high), (7, length_low), (8, length_high)];
@@ -70,7 +70,7 @@ impl<'a> Desk<'a> {
         self.machine.storage_mut()[offset..offset + bytes.len()].copy_from_slice(bytes);
     }
 
-    fn cycle(&mut self, ba_high: u32, ba_high_phi1: u32) -> u32 {
+    pub fn cycle(&mut self, ba_high: u32, ba_high_phi1: u32) -> u32 {
         let (cycle, ba_low) = (self.cycle, u32::from(ba_high == 0));
         self.cycle += 1;
         self.machine.call(Call::RunReuCycle { ba_high, cycle, ba_low, ba_high_phi1 })

@@ -2,7 +2,7 @@
 
 use crate::calls::Step;
 use crate::compare::Pair;
-use crate::sides::IMAGE;
+use crate::sizes::BLANK;
 use std::time::{Duration, Instant};
 
 /// A list is made shorter for so long at most.
@@ -11,7 +11,7 @@ const PATIENCE: Duration = Duration::from_secs(20);
 /// Both sides as every list that is run again finds them.
 pub fn begin(pair: &mut Pair) {
     pair.tried.mend_guards();
-    for start in [Step::Memory(0), Step::Image([0; IMAGE])] {
+    for start in [Step::Image(BLANK), Step::Memory(0)] {
         pair.tried.step(start);
         pair.right.step(start);
     }

@@ -1,8 +1,9 @@
-//! The two sides of a comparison. A port has the fifteen calls on lent bytes, as the library exports them; a machine
+//! The two sides of a comparison. A port has the sixteen calls on lent bytes, as the library exports them; a machine
 //! holds its own bytes, whether it is a port with its buffers or the original.
 
 use crate::calls::{Call, Step};
 use crate::rng::fill;
+use crate::sizes::size_of;
 pub use reu::{BUS_SIZE as BUS, IMAGE_SIZE as IMAGE, STORAGE_SIZE as STORAGE};
 use reu::{FLAG_INTERRUPT, IMAGE_C64_ADDRESS, IMAGE_EXPANSION_ADDRESS, IMAGE_FLAGS, IMAGE_REGISTERS, IMAGE_REMAINING};
 
@@ -38,6 +39,10 @@ pub trait Machine {
     }
     /// Makes them so again.
     fn mend_guards(&mut self) {}
+    /// Whether the repeats of a small storage are equal, in a machine that has such.
+    fn repeats_hold(&self) -> bool {
+        true
+    }
 
     /// What `bus_action` would answer now, and the controller that it would leave; the machine is left as it was.
     fn grant(&mut self, ba_high: u32, ba_high_phi1: u32, cycle: u64) -> (u32, Image) {
@@ -61,7 +66,10 @@ pub trait Machine {
             }
             Step::Image(image) => self.load(&image),
             Step::Bus(addr, value) => self.bus_mut()[usize::from(addr)] = value,
-            Step::Storage(offset, value) => self.storage_mut()[offset as usize] = value,
+            Step::Storage(offset, value) => {
+                let storage = self.storage_mut();
+                storage[offset as usize % storage.len()] = value;
+            }
         }
         None
     }
@@ -82,10 +90,10 @@ pub fn register(index: u16) -> usize {
     IMAGE_REGISTERS + usize::from(index)
 }
 
-/// Where an image's transfer points: a bus address and a storage offset. Without a transfer both are 0.
+/// Where an image's transfer points: a bus address and an offset in the storage of its size. Without a transfer both are 0.
 pub fn places(image: &Image) -> (usize, usize) {
     let logical = number(&image[IMAGE_EXPANSION_ADDRESS..IMAGE_REMAINING]);
-    (number(&image[IMAGE_C64_ADDRESS..IMAGE_EXPANSION_ADDRESS]), logical % STORAGE)
+    (number(&image[IMAGE_C64_ADDRESS..IMAGE_EXPANSION_ADDRESS]), logical % size_of(image).unwrap_or(STORAGE))
 }
 
 const GUARD: usize = 64;
@@ -107,6 +115,14 @@ impl Guarded {
         self.0[end..].fill(GUARD_BYTE);
     }
 
+    /// So many bytes, the ones that it has over and over, between the guards as they are.
+    fn resize(&mut self, length: usize) {
+        let mut bytes = self.0[..GUARD].to_vec();
+        bytes.extend(self.get().iter().cycle().take(length));
+        bytes.extend(&self.0[self.end()..]);
+        self.0 = bytes;
+    }
+
     fn end(&self) -> usize {
         self.0.len() - GUARD
     }
@@ -125,7 +141,7 @@ impl Guarded {
     }
 }
 
-/// A port with guarded buffers of the right lengths.
+/// A port with guarded buffers of the right lengths: the storage's is the size that its image sets.
 pub struct Held<P> {
     pub port: P,
     image: Guarded,
@@ -137,12 +153,22 @@ impl<P: Port> Held<P> {
     pub fn new(port: P) -> Self {
         Self { port, image: Guarded::new(IMAGE), bus: Guarded::new(BUS), storage: Guarded::new(STORAGE) }
     }
+
+    /// Another size is another storage; the host puts into it what it had, over and over.
+    fn fit(&mut self) {
+        match size_of(self.image.get()) {
+            Some(size) if size != self.storage.get().len() => self.storage.resize(size),
+            _ => {}
+        }
+    }
 }
 
 impl<P: Port> Machine for Held<P> {
     fn call(&mut self, call: Call) -> u32 {
         let (image, bus, storage) = (self.image.get_mut(), self.bus.get_mut(), self.storage.get_mut());
-        self.port.call(call, Lent { image, bus, storage })
+        let answer = self.port.call(call, Lent { image, bus, storage });
+        self.fit();
+        answer
     }
 
     fn image(&self) -> Image {
@@ -151,6 +177,7 @@ impl<P: Port> Machine for Held<P> {
 
     fn load(&mut self, image: &Image) {
         self.image.get_mut().copy_from_slice(image);
+        self.fit();
     }
 
     fn interrupt(&self) -> bool {

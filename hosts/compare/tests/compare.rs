@@ -8,7 +8,8 @@ use compare::passed::AtTops;
 use compare::port::Library;
 use compare::record::replay;
 use compare::refusals::{Refusals, Refuser};
-use compare::sides::{Held, IMAGE, Lent, Port, STORAGE};
+use compare::sides::{Held, Lent, Port, STORAGE};
+use compare::sizes::{AtSizes, BLANK, size_of};
 use compare::{SEED, demand3, remaining};
 use reu::{IMAGE_LATCH, IMAGE_REMAINING, IMAGE_TYPE};
 use std::cell::RefCell;
@@ -38,9 +39,9 @@ fn called_from(seed: u64) -> [Vec<(Call, Vec<u8>)>; 3] {
     assert!(Run::new(seed).compare(&mut pair, 10_000).is_ok());
     let run = calls.take();
     let mut refusals = Refusals::new(Kept(&calls), seed);
-    assert!((0..100).all(|_| refusals.refuse(&[0; IMAGE]).is_ok()));
+    assert!((0..100).all(|_| refusals.refuse(&BLANK).is_ok()));
     let refused = calls.take();
-    assert!(demand3::run(&mut tried, None, seed).is_ok());
+    assert!(demand3::run(&mut tried, None, STORAGE, seed).is_ok());
     [run, refused, calls.take()]
 }
 
@@ -79,6 +80,46 @@ fn a_full_run_must_have_met_all_that_is_counted_at_the_tops_of_the_addresses() {
         let mut counts = [7; 8];
         counts[at] = 0;
         assert!(!met(FULL_RUN, counts), "{at}");
+    }
+}
+
+#[test]
+fn a_full_run_must_have_met_all_that_is_counted_at_each_size() {
+    let met = |calls, counts| {
+        let mut run = Run::new(SEED);
+        (run.calls, run.at_sizes) = (calls, AtSizes(counts));
+        run.has_met_the_sizes().is_ok()
+    };
+    assert!(met(FULL_RUN, [[1; 6]; 3]) && met(FULL_RUN - 1, [[0; 6]; 3]));
+    for (size, at) in (0..3).flat_map(|size| (0..6).map(move |at| (size, at))) {
+        let mut counts = [[7; 6]; 3];
+        counts[size][at] = 0;
+        assert!(!met(FULL_RUN, counts), "{size} {at}");
+    }
+}
+
+/// Far fewer calls than a full run has already met it all; at least one in ten is at each of the smaller sizes.
+#[test]
+fn lists_come_with_each_size() {
+    let (mut tried, mut right) = (Held::new(Library), Held::new(Library));
+    let mut run = Run::new(SEED);
+    assert!(run.compare(&mut Pair { tried: &mut tried, right: &mut right }, FULL_RUN / 10).is_ok());
+    assert_eq!(run.at_sizes.missing(), Vec::<String>::new());
+    let calls = run.at_sizes.0.map(|met| met[0]);
+    assert_eq!(calls.iter().sum::<u64>(), run.calls);
+    assert!(calls[0] > run.calls / 2 && calls[1].min(calls[2]) > run.calls / 10, "{calls:?}");
+}
+
+/// The record is the original's, which has one size: no line sets another, and no image has one.
+#[test]
+fn the_record_is_at_one_size() {
+    let lines: Vec<(Step, &str)> =
+        RECORDED.lines().filter_map(|line| Some((Step::parse(line.split(" = ").next()?)?, line))).collect();
+    let settings = lines.iter().filter(|(step, _)| matches!(step, Step::Call(Call::SetSize { .. })));
+    let accepted: Vec<&str> = settings.map(|(_, line)| *line).filter(|line| line.contains(" = 0")).collect();
+    assert!(!accepted.is_empty() && accepted.iter().all(|line| *line == "set_size 524288 = 0"), "{accepted:?}");
+    for (step, line) in lines {
+        assert!(!matches!(step, Step::Image(image) if size_of(&image) != Some(STORAGE)), "{line}");
     }
 }
 
@@ -167,6 +208,9 @@ mod with_original {
     use compare::record::record;
     use compare::reference::Original;
     use compare::shrink::{begin, shorten};
+    use compare::sides::Machine;
+    use compare::sizes;
+    use reu::{RECALL, STORE};
 
     /// How the program says that it is run.
     const CARGO: &str = "cargo run --release --manifest-path hosts/Cargo.toml -p compare --";
@@ -206,7 +250,7 @@ mod with_original {
 
     #[test]
     fn so_does_a_run_in_which_a_refusal_is_wrong() {
-        for bug in ["a delay of 3 is taken", "a refusal has a value"] {
+        for bug in ["a delay of 3 is taken", "a longer bus is taken"] {
             let run = repeated(bug, 100);
             let seed = run.split(' ').nth(2).unwrap();
             assert!(run.contains(&format!("refusals: from seed {seed}: ")), "{run}");
@@ -232,6 +276,41 @@ mod with_original {
             let by_blocks = caught_by(|| remaining::blocks(&mut pair).map(drop)).expect(name);
             assert!(by_blocks.starts_with("remaining: in a block of "), "{name}: {by_blocks}");
         }
+    }
+
+    /// Lines that a small storage does not connect choose nothing: what a call stores by one address is recalled by others,
+    /// and so is what the host writes.
+    #[test]
+    fn the_original_at_a_small_size_sees_its_storage_in_every_repeat() {
+        let size = 131_072;
+        let mut original = Original::default();
+        let calls = [Call::SetSize { size }, Call::SetEnabled { enabled: 1 }];
+        assert!(calls.map(|call| original.call(call)) == [0, 0]);
+        let (stored, written) = (0x2_1234, 0x1_0007);
+        original.step(Step::Storage(written, 0x5A));
+        original.step(Step::Bus(0x1000, 0xA5));
+        move_byte(&mut original, STORE, stored);
+        assert_eq!(original.storage()[stored as usize % size as usize], 0xA5);
+        for repeat in 0..128 {
+            for (offset, byte) in [(stored, 0xA5), (written, 0x5A)] {
+                original.step(Step::Bus(0x1000, 0));
+                move_byte(&mut original, RECALL, offset % size as u32 + repeat * size as u32);
+                assert_eq!(original.bus()[0x1000], byte, "repeat {repeat}, offset {offset}");
+            }
+        }
+        assert!(original.repeats_hold());
+    }
+
+    /// Moves one byte between $1000 and an expansion address, which comes by the image: a bank that is written has five bits
+    /// that are 1.
+    fn move_byte(machine: &mut dyn Machine, kind: u8, expansion: u32) {
+        let mut image = machine.image();
+        let bytes = [[0x00, 0x10], [expansion as u8, (expansion >> 8) as u8], [(expansion >> 16) as u8, 1]].concat();
+        image[2..8].copy_from_slice(&bytes);
+        image[8] = 0;
+        machine.load(&image);
+        machine.call(Call::Write { addr: 0xDF01, value: 0x90 | kind });
+        machine.call(Call::RunReuCycle { ba_high: 1, cycle: 0, ba_low: 0, ba_high_phi1: 1 });
     }
 
     /// The steps that it prints are a list, and show it again.
@@ -288,12 +367,15 @@ mod with_original {
         }
     }
 
-    /// What needs no original, the recorded list and the refusals, catches every planted bug.
+    /// What needs no original, the recorded list, the part about sizes and the refusals, catches every planted bug.
     #[test]
-    fn the_record_and_the_refusals_catch_every_planted_bug() {
+    fn the_record_the_sizes_and_the_refusals_catch_every_planted_bug() {
         for (name, _, standin) in bugs() {
-            let by_record = caught_by(|| replay(&mut Held::new(Standin(standin)), RECORDED).map(drop));
-            let caught = by_record.or_else(|| caught_by(|| Refusals::new(Standin(standin), SEED).run()));
+            let machine = || Held::new(Standin(standin));
+            let by_record = caught_by(|| replay(&mut machine(), RECORDED).map(drop));
+            let by_sizes = || caught_by(|| sizes::run(&mut machine(), SEED).map(drop));
+            let by_refusals = || caught_by(|| Refusals::new(Standin(standin), SEED).run());
+            let caught = by_record.or_else(by_sizes).or_else(by_refusals);
             assert!(caught.is_some(), "not caught: {name}");
         }
     }
