@@ -278,6 +278,39 @@ mod with_original {
         }
     }
 
+    /// Bugs that are about sizes, or show at a small one alone: the part that needs no original catches each.
+    #[test]
+    fn the_part_about_sizes_catches_what_is_wrong_with_them() {
+        let names = [
+            "the fold keeps nineteen lines at every size",
+            "the fold keeps eighteen lines at 128 KiB",
+            "the fold keeps seventeen lines at 256 KiB",
+            "the expansion address wraps at the end of a small storage",
+            "the end of a small storage is reported as passed",
+            "attaching clears 128 KiB at every size",
+            "reset takes the size back",
+            "disabling takes the size back",
+            "setting a size leaves STATUS bit 4",
+            "STATUS bit 4 is 0 at 256 KiB too",
+            "reset sets STATUS bit 4",
+            "a start sets STATUS bit 4",
+            "setting a size clears the events in STATUS",
+            "the capacity is the size before it is attached",
+            "the capacity is 524,288 at every size",
+            "6 comes before 5",
+            "the same size is set when attached",
+            "of a size the low 32 bits are looked at",
+            "of a size the lowest bit is looked at",
+            "the storage must have 524,288 bytes at every size",
+            "the codes of 256 and 128 KiB are exchanged",
+        ];
+        for name in names {
+            let (_, _, standin) = bugs().into_iter().find(|(bug, ..)| *bug == name).expect(name);
+            let found = caught_by(|| sizes::run(&mut Held::new(Standin(standin)), SEED).map(drop)).expect(name);
+            assert!(found.starts_with("sizes: "), "{name}: {found}");
+        }
+    }
+
     /// Lines that a small storage does not connect choose nothing: what a call stores by one address is recalled by others,
     /// and so is what the host writes.
     #[test]
@@ -311,6 +344,20 @@ mod with_original {
         machine.load(&image);
         machine.call(Call::Write { addr: 0xDF01, value: 0x90 | kind });
         machine.call(Call::RunReuCycle { ba_high: 1, cycle: 0, ba_low: 0, ba_high_phi1: 1 });
+    }
+
+    /// What shows at a small size alone keeps the setting of one in its short list.
+    #[test]
+    fn a_disagreement_at_a_small_size_is_made_short() {
+        let name = "the capacity is 524,288 at every size";
+        let (_, _, standin) = bugs().into_iter().find(|(bug, ..)| *bug == name).unwrap();
+        let (mut tried, mut right) = (Held::new(Standin(standin)), Original::default());
+        let mut pair = Pair { tried: &mut tried, right: &mut right };
+        let found = Run::new(SEED).compare(&mut pair, 200_000).unwrap_err();
+        let (steps, what) = shorten(&mut pair, found.steps).unwrap();
+        let text = list_text(&steps);
+        let lists = [131_072, 262_144].map(|size| format!("set_size {size}\nset_enabled 1\ncapacity_bytes\n"));
+        assert!(lists.contains(&text) && what.contains("on a storage of repeats"), "{what}:\n{text}");
     }
 
     /// The steps that it prints are a list, and show it again.
