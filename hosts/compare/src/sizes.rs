@@ -98,11 +98,11 @@ pub fn size_after(call: Call, before: &Image) -> usize {
 /// What the original's answer is at this size: STATUS has its mark, and the capacity is the size. At 524,288 bytes the
 /// answer is the original's own.
 pub fn answer_at(size: usize, call: Call, answer: u32) -> u32 {
-    let unmarked = answer & !u32::from(MARK) | u32::from(mark(size));
+    let marked = answer & !u32::from(MARK) | u32::from(mark(size));
     match call {
         _ if size == SIZES[0] => answer,
-        Call::Read { addr } if addr & 0x1F == 0 => unmarked,
-        Call::DebugRegister { index: 0 } => unmarked,
+        Call::Read { addr } if addr & 0x1F == 0 => marked,
+        Call::DebugRegister { index: 0 } => marked,
         Call::CapacityBytes if answer != 0 => size as u32,
         _ => answer,
     }

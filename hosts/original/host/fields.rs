@@ -1,6 +1,6 @@
 // Places and the length of an image are the Rust crate's, by name, and a field reaches up to the next place; which field
-// stands where is said here. The original has no count of granted cycles: its bytes are 0, and not opened. (Without the
-// colons before it, `reu` is a module of the original.)
+// stands where is said here. The original has no count of granted cycles and no size: their bytes and bits are 0, and not
+// opened. (Without the colons before it, `reu` is a module of the original.)
 use ::reu::*;
 
 fn bits(flags: &[bool]) -> u8 {
