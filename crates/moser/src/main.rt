@@ -4,7 +4,7 @@ use image::layout::IMAGE_BYTES;
 use script::*;
 
 // A line's last two digits are the number of its table; what the columns before them mean stands above each table.
-const TABLES: [u64; 142] = [
+const TABLES: [u64; 145] = [
     // 1. Register and the value that it has from new.
     0x0_10_01,
     0x1_10_01,
@@ -18,7 +18,7 @@ const TABLES: [u64; 142] = [
     0x9_1F_01,
     0xA_3F_01,
     // 2. Register, the byte written, and the byte then held and read.
-    // STATUS keeps no bit of it, and its bit 4 is always 1.
+    // STATUS keeps no bit of it; its bit 4 is the mark of the size, 1 for 512 KiB.
     0x0_00_10_02,
     0x0_FF_10_02,
     0x0_55_10_02,
@@ -181,11 +181,15 @@ const TABLES: [u64; 142] = [
     0xA0_2_1_F0_1_09,
     0xC0_2_1_F0_1_09,
     0xE0_2_1_F0_1_09,
+    // 10. Size in KiB, and STATUS from then on: bit 4, the chip-size mark, is 0 for 128 KiB and 1 for the others.
+    0x0080_00_0A,
+    0x0100_10_0A,
+    0x0200_10_0A,
 ];
 
 // How each table is tried: the cases of its number, in which every row must agree. Crate script says what each
 // operation does; a row takes a column of the line by the number of its last digit, counted from the right from 0.
-const SCRIPTS: [u64; 196] = [
+const SCRIPTS: [u64; 212] = [
     // 1. Read from new, and after a reset. Before the reset a command raises the interrupt, with every register written.
     CASE + 1 * AT,
     NEW,
@@ -391,6 +395,24 @@ const SCRIPTS: [u64; 196] = [
     READS + 0xDF00 * AT + BYTE + 3 * COLUMN,
     LEVEL_IS + 0,
     STATUS_IS + 0x10,
+    // 10. Set on a new controller, which has no storage yet. A read keeps the mark, and so do a write, a start and a reset.
+    CASE + 10 * AT,
+    NEW,
+    SIZE + WORD + 4 * COLUMN,
+    STATUS_IS + BYTE + 2 * COLUMN,
+    READS + 0xDF00 * AT + BYTE + 2 * COLUMN,
+    WRITE + 0xDF00 * AT + 0xFF,
+    COMMAND + 0x90,
+    STATUS_IS + BYTE + 2 * COLUMN,
+    RESET,
+    STATUS_IS + BYTE + 2 * COLUMN,
+    // After another size.
+    SIZE + 128,
+    SIZE + WORD + 4 * COLUMN,
+    STATUS_IS + BYTE + 2 * COLUMN,
+    SIZE + 256,
+    SIZE + WORD + 4 * COLUMN,
+    STATUS_IS + BYTE + 2 * COLUMN,
 ];
 
 fn main() {
@@ -399,5 +421,5 @@ fn main() {
     let mut storage = empty_storage();
     let n = script::play_table(&SCRIPTS, &TABLES, &mut image, &mut bus, &mut storage);
     io::print_decimal(1, n as u64);
-    io::write_all(1, b" of 142\n");
+    io::write_all(1, b" of 145\n");
 }

@@ -1,13 +1,13 @@
 -- What a row does, by the number of its operation: a is its place, v its value, i the image, m the bus, s the storage.
 -- A row agrees if each call in it answers what it should.
-use Prim.Native.Nat.{ℕ, zero, suc, _+_, _/_, _%_}
+use Prim.Native.Nat.{ℕ, zero, suc, _+_, _*_, _/_, _%_}
 use mathlib.Core.Bool.{Bool, true, false, cond, _&&_}
 use mathlib.Core.List.{List}
 use lib.Dec.{eqb, ltb}
 use lib.ListN.{length, getD, set}
 use Rattle.transfer.specs.Bytes.{bit, bitOf}
 use Rattle.image.specs.Layout.{placeOf as imagePlace, flags}
-use Rattle.reu.specs.Exports.{refusalUnit, reuBusAction, reuCycle, reuDebugRegister, reuNew, reuRead, reuReset, reuSetEnabled, reuTickDma, reuTriggerFf00, reuWrite}
+use Rattle.reu.specs.Exports.{refusalUnit, reuBusAction, reuCycle, reuDebugRegister, reuNew, reuRead, reuReset, reuSetEnabled, reuSetSize, reuTickDma, reuTriggerFf00, reuWrite}
 use Rattle.script.specs.Rows.{operationOf, placeOf, valueOf}
 
 -- whether it agrees, and what it leaves of the one buffer that it changes
@@ -62,7 +62,11 @@ isPairShown a v i = isShown a (v % 256) i && isShown (a + 1) (v / 256) i
 unfoldable pub isLevel : ℕ → List ℕ → Bool
 isLevel v i = ltb (imagePlace flags) (length i) && eqb (bitOf (bit (getD i (imagePlace flags) 0) 1)) v
 
--- new, reset and FF00; writes of a byte, a pair and the expansion address; what is read, shown, shown as a pair; the level
+-- a size is set, in KiB
+abbrev pub sizeRow : ℕ → List ℕ → OnOne
+sizeRow v i = answers 0 (reuSetSize i (1024 * v))
+
+-- new, reset and FF00; writes of a byte, a pair and the expansion address; what is read, shown, shown as a pair; the level; a size
 unfoldable pub controllerRow : ℕ → ℕ → ℕ → List ℕ → OnOne
 controllerRow operation a v i =
     cond (eqb operation 1) (answers 0 (reuNew i))
@@ -73,7 +77,8 @@ controllerRow operation a v i =
     (cond (eqb operation 6) (expansionRow a v i)
     (cond (eqb operation 7) (readsRow a v i)
     (cond (eqb operation 8) (isShown a v i, i)
-    (cond (eqb operation 9) (isPairShown a v i, i) (cond (eqb operation 10) (isLevel v i, i) (false, i))))))))))
+    (cond (eqb operation 9) (isPairShown a v i, i)
+    (cond (eqb operation 10) (isLevel v i, i) (cond (eqb operation 11) (sizeRow v i) (false, i)))))))))))
 
 -- ---- what the host lends
 

@@ -3,7 +3,7 @@ use crate::operations;
 use image::layout;
 ghost use mathlib.Core.Path.{_≡_};
 ghost use Prim.Native.Nat.{_<_};
-ghost use Rattle.script.specs.Operations.{controllerRow, expansionRow, isLevel, readsRow, isShown, isPairShown, writePairRow, writeRow};
+ghost use Rattle.script.specs.Operations.{controllerRow, expansionRow, isLevel, readsRow, isShown, isPairShown, sizeRow, writePairRow, writeRow};
 
 fn write(image: &mut [u8], address: u32, value: u32) -> bool
     ensures { λ r. ⌜ (r, now (image .exit)) ≡ writeRow address value (now (image .entry)) ⌝ }
@@ -63,6 +63,12 @@ fn level_is(image: &[u8], value: u32) -> bool
     false
 }
 
+fn set_size(image: &mut [u8], kib: u32) -> bool
+    ensures { λ r. ⌜ (r, now (image .exit)) ≡ sizeRow kib (now (image .entry)) ⌝ }
+{
+    reu::reu_set_size(image, 1024 * (kib as u64)) == 0
+}
+
 pub(crate) fn on_controller(operation: u64, place: u32, value: u32, image: &mut [u8]) -> bool
     requires { ⌜ place < 16777216 ⌝ }
     ensures { λ r. ⌜ (r, now (image .exit)) ≡ controllerRow operation place value (now (image .entry)) ⌝ }
@@ -78,6 +84,7 @@ pub(crate) fn on_controller(operation: u64, place: u32, value: u32, image: &mut 
         operations::SHOWS => shows(image, place, value),
         operations::SHOWS_PAIR => shows_pair(image, place, value),
         operations::LEVEL_IS => level_is(image, value),
+        operations::SIZE => set_size(image, value),
         _ => false,
     }
 }

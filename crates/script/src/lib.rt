@@ -94,6 +94,9 @@ pub const LENGTH_IS: u64 = SHOWS_PAIR + 7 * AT;
 // The interrupt level: bit 1 of the image's flags.
 pub const LEVEL_IS: u64 = operations::LEVEL_IS * OPERATION;
 
+// A size is set, in KiB.
+pub const SIZE: u64 = operations::SIZE * OPERATION;
+
 // ---- operations on what the host lends
 
 // A case begins, on a new controller that is enabled. The place is its number, and the value the line's.

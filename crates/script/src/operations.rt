@@ -21,6 +21,8 @@ pub const SHOWS_PAIR: u64 = 9;
 
 pub const LEVEL_IS: u64 = 10;
 
+pub const SIZE: u64 = 11;
+
 // On what the host lends.
 pub const BEGIN: u64 = 16;
 

@@ -91,18 +91,27 @@ returns-10 c =
 returns-11 : tie.Need-returns-11
 unfolding controllerRow
 returns-11 c =
+    let its-match = c .before .before .before .before .match in
+    let its-set-size = c .before .before .set-size in
+    let start = c .before .before .before .before .before .before in
+    known (by start) (its-match .keys11) (its-set-size .ensures)
+
+returns-12 : tie.Need-returns-12
+unfolding controllerRow
+returns-12 c =
     let rest = c .match .rest in
     rw (
-      ne-eqb _ 1 (rest .0 .0 .0 .0 .0 .0 .0 .0 .0 .1),
-      ne-eqb _ 2 (rest .0 .0 .0 .0 .0 .0 .0 .0 .1),
-      ne-eqb _ 3 (rest .0 .0 .0 .0 .0 .0 .0 .1),
-      ne-eqb _ 4 (rest .0 .0 .0 .0 .0 .0 .1),
-      ne-eqb _ 5 (rest .0 .0 .0 .0 .0 .1),
-      ne-eqb _ 6 (rest .0 .0 .0 .0 .1),
-      ne-eqb _ 7 (rest .0 .0 .0 .1),
-      ne-eqb _ 8 (rest .0 .0 .1),
-      ne-eqb _ 9 (rest .0 .1),
-      ne-eqb _ 10 (rest .1),
+      ne-eqb _ 1 (rest .0 .0 .0 .0 .0 .0 .0 .0 .0 .0 .1),
+      ne-eqb _ 2 (rest .0 .0 .0 .0 .0 .0 .0 .0 .0 .1),
+      ne-eqb _ 3 (rest .0 .0 .0 .0 .0 .0 .0 .0 .1),
+      ne-eqb _ 4 (rest .0 .0 .0 .0 .0 .0 .0 .1),
+      ne-eqb _ 5 (rest .0 .0 .0 .0 .0 .0 .1),
+      ne-eqb _ 6 (rest .0 .0 .0 .0 .0 .1),
+      ne-eqb _ 7 (rest .0 .0 .0 .0 .1),
+      ne-eqb _ 8 (rest .0 .0 .0 .1),
+      ne-eqb _ 9 (rest .0 .0 .1),
+      ne-eqb _ 10 (rest .0 .1),
+      ne-eqb _ 11 (rest .1),
     )
 
 pub on-controller-spec : {M : Type 1} → statement M
@@ -110,6 +119,6 @@ on-controller-spec =
     tie.close
     (tie.spec (λ c κs. search needs) (λ c κs. search needs) (λ c κs. search needs) (λ c κs. search needs)
     (λ c κs. search needs) (λ c κs. search needs) (λ c κs. search needs) (λ c κs. search needs) (λ c κs. search needs)
-    (λ c κs. search needs) (λ c. search needs) returns (λ c. search needs) returns-2 (λ c. search needs) returns-3
+    (λ c κs. search needs) (λ c κs. search needs) (λ c. search needs) returns (λ c. search needs) returns-2 (λ c. search needs) returns-3
     (λ c. search needs) returns-4 (λ c. search needs) returns-5 (λ c. search needs) returns-6 (λ c. search needs)
-    returns-7 (λ c. search needs) returns-8 (λ c. search needs) returns-9 (λ c. search needs) returns-10 returns-11)
+    returns-7 (λ c. search needs) returns-8 (λ c. search needs) returns-9 (λ c. search needs) returns-10 (λ c. search needs) returns-11 returns-12)
