@@ -16,7 +16,7 @@ use Rattle.transfer.specs.declared.dma.Dma.{Dma}
 use Rattle.transfer.specs.declared.dma.Dma.the-variants.{Idle, Running}
 use Rattle.transfer.proofs.Sizes.{size-lines, three-sizes, size-128, size-256, size-512, lines-17, lines-18, lines-19}
 use Rattle.controller.specs.declared.reu.Reu.{Reu}
-use Rattle.controller.specs.Enable.{marked, newReu, setSize as core-setSize}
+use Rattle.controller.specs.Enable.{newReu, withMark, setSize as core-setSize}
 use Rattle.controller.specs.Reu.{withRegs}
 use Rattle.controller.specs.Refusals.{wellFormed, firstRefusal, sizeRefusal, checked}
 use Rattle.controller.specs.Calls.{answered, refused, setSizeCall}
@@ -89,9 +89,9 @@ module _ (u : Reu) where
       let s = getD (u .regs) 0 0 in
       let n = moreNumber u in
       let more : flagsOf (moreBits u) + 4 * sizeCode size ≡ n % 4 + 4 * sizeCode size = omega (arith, flags-below (moreBits u)) in
-      ap (laidWith d (marked size s)) more
-      ∙ sym (touched d s n (marked size s) (n % 4 + 4 * sizeCode size))
-      ∙ sym (λ i. set (set (laidWith d s n) 0 (marked size (first-byte d s n i))) 19 (more-at d s n i % 4 + 4 * sizeCode size))
+      ap (laidWith d (withMark size s)) more
+      ∙ sym (touched d s n (withMark size s) (n % 4 + 4 * sizeCode size))
+      ∙ sym (λ i. set (set (laidWith d s n) 0 (withMark size (first-byte d s n i))) 19 (more-at d s n i % 4 + 4 * sizeCode size))
 
   pub sized-bytes : (size : ℕ) → Sound u → packImage (core-setSize u size) ≡ withSize (packImage u) size
   sized-bytes size sound =

@@ -26,7 +26,6 @@ use Rattle.reu.specs.Exports.{flag}
 use Rattle.claims.specs.Calls.{Held, Other, new, reset, setSize, setEnabled, storagePresent, capacityBytes, triggerFf00, dmaActive, busAction, cpuReady, debugRegister, c64Access, tickDma, Kind, read, write, cycle, other, NumbersFit, Call}
 use Rattle.image.proofs.Sound.{Sound}
 use Rattle.image.proofs.SoundCalls.{Memory, bytes-memory, SoundState, sound-cycle, sound-new, sound-fresh, sound-size, sound-trigger, sound-read, sound-write, sound-grant, sound-enabled, sound-tick-dma}
-
 use Rattle.claims.proofs.NumberLaw.{Numbers, read-keeps, switch-keeps, grant-keeps, tick-keeps, cycle-counts, trigger-zeroes, write-zeroes}
 
 pub record St : Type 0 where

@@ -368,9 +368,11 @@ module _ (x : St) (ready : Ready x) where
       let bank : reg (x .u) 6 < 256 = ready .sound .regs .fits 6 .byte in
       let ec : c64-of (x .u) ≡ onBus (c64-of (x .u)) 0 = omega arith in
       let ee : exp-of (x .u) ≡ (exp-of (x .u) + 0) % 16777216 = omega arith in
-      let er : len-of (x .u) ≡ len-of (x .u) - 0 = omega arith in
-      (reading 0 (length-range (word (reg (x .u) 7) (reg (x .u) 8)) (small-word 7 8) .0) refl (λ r. refl)
-      (subst (λ (q : ℕ). Reading (writeRegister (x .u) a v) (onBus (c64-of (x .u)) 0) ((exp-of (x .u) + 0) % 16777216) q) er
-      (subst₂ (λ (q q′ : ℕ). Reading (writeRegister (x .u) a v) q q′ (len-of (x .u))) ec ee (b .reading)))
-      (exch-zero (onBus (c64-of (x .u))) (onStorage connected-lines (exp-of (x .u))) (x .m) (x .s))
-      (ap (λ (q : ℕ). q / 128 % 2) (b .command) ∙ go′) (ap (λ (q : ℕ). q / 64) (b .control) ∙ i .free), keeps-size (write a v) x tt)
+      let er : len-of (x .u) ≡ len-of (x .u) - 0 = omega arith in (
+        reading 0 (length-range (word (reg (x .u) 7) (reg (x .u) 8)) (small-word 7 8) .0) refl (λ r. refl)
+            (subst (λ (q : ℕ). Reading (writeRegister (x .u) a v) (onBus (c64-of (x .u)) 0) ((exp-of (x .u) + 0) % 16777216) q) er
+            (subst₂ (λ (q q′ : ℕ). Reading (writeRegister (x .u) a v) q q′ (len-of (x .u))) ec ee (b .reading)))
+            (exch-zero (onBus (c64-of (x .u))) (onStorage connected-lines (exp-of (x .u))) (x .m) (x .s))
+            (ap (λ (q : ℕ). q / 128 % 2) (b .command) ∙ go′) (ap (λ (q : ℕ). q / 64) (b .control) ∙ i .free),
+        keeps-size (write a v) x tt,
+      )

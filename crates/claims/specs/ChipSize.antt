@@ -9,7 +9,7 @@ use lib.ListN.{length, set}
 use Rattle.transfer.specs.Bytes.{bit}
 use Rattle.transfer.specs.Constants.{newSize, status, version}
 use Rattle.transfer.specs.Memory.{lines, isSize, chipMark}
-use Rattle.controller.specs.Enable.{marked, newReu}
+use Rattle.controller.specs.Enable.{newReu, withMark}
 use Rattle.controller.specs.Refusals.{firstRefusal}
 use Rattle.image.specs.Layout.{at, imageSize, packImage, sizeCode, sizeOf}
 use Rattle.image.specs.Open.{openImage}
@@ -34,7 +34,7 @@ refusedBy k size = firstRefusal ((isSize size, 5) ∷ (not (hasStorage k), 6) �
 -- another size, with its mark: STATUS bit 4 and "byte 19 bits 2-3", and nothing else
 abbrev pub withSize : List ℕ → ℕ → List ℕ
 withSize image size =
-    set (set image status (marked size (at image status))) moreFlagsByte (at image moreFlagsByte % 4 + 4 * sizeCode size)
+    set (set image status (withMark size (at image status))) moreFlagsByte (at image moreFlagsByte % 4 + 4 * sizeCode size)
 
 -- ---- the size over lists of calls: new makes 512 KiB, set_size sets its own, and no other call changes it
 

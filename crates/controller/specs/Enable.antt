@@ -6,8 +6,8 @@ use Rattle.controller.specs.Reu.{reg, setReg, withPower, withSize, withD
 use Rattle.transfer.specs.Memory.{chipMark, zeros}
 
 -- L4: "STATUS bit 4 is a chip-size mark": v with the mark of a size
-abbrev pub marked : ℕ → ℕ → ℕ
-marked size v = cond (chipMark size) (setBits (version ∷ []) v) (clearBits (version ∷ []) v)
+abbrev pub withMark : ℕ → ℕ → ℕ
+withMark size v = cond (chipMark size) (setBits (version ∷ []) v) (clearBits (version ∷ []) v)
 
 -- R1: STATUS $10, COMMAND $10, addresses 0, bank $F8 over a shadow of 0, length $FFFF, mask $1F, control $3F; "BA was high is true";
 -- L1: the count of granted cycles is "zero at new, reset"; STATUS has the mark of the size
@@ -15,7 +15,7 @@ abbrev pub fresh : Bool → Bool → ℕ → Reu
 fresh enabled attached size =
     record {
       regs =
-          marked size 0 ∷ ones (withoutFf00 ∷ []) ∷ 0 ∷ 0 ∷ 0 ∷ 0 ∷ ones bankOnes ∷ 255 ∷ 255 ∷ ones maskOnes ∷ ones controlOnes ∷ [];
+          withMark size 0 ∷ ones (withoutFf00 ∷ []) ∷ 0 ∷ 0 ∷ 0 ∷ 0 ∷ ones bankOnes ∷ 255 ∷ 255 ∷ ones maskOnes ∷ ones controlOnes ∷ [];
       «shadow_c64_addr» = 0;
       «shadow_reu_addr» = 0;
       «shadow_len» = 65535;
@@ -44,7 +44,7 @@ resetReu u = fresh (u .enabled) (u .attached) (u .size)
 
 -- L4: "Setting a size changes that bit at once", and nothing else
 unfoldable pub setSize : Reu → ℕ → Reu
-setSize u size = withSize (setReg u status (marked size (reg u status))) size
+setSize u size = withSize (setReg u status (withMark size (reg u status))) size
 
 -- "Disabling drops the transfer, clears what a start clears, lowers the interrupt level, keeps all registers and the two BA history flags"
 abbrev pub disabled : Reu → Reu

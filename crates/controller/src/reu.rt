@@ -1,7 +1,7 @@
 // The controller, and its public calls. Each tests what it is handed, and answers a refusal, changing nothing, or does its work.
 ghost use mathlib.Core.Path.{_≡_};
 ghost use Rattle.transfer.specs.Bytes.{bitOf};
-ghost use Rattle.controller.specs.Enable.{disabled, fresh, marked, newReu, resetReu, setEnabled, setSize};
+ghost use Rattle.controller.specs.Enable.{disabled, fresh, newReu, resetReu, setEnabled, setSize, withMark};
 ghost use Rattle.controller.specs.TickDma.{quietStep};
 ghost use Rattle.controller.specs.Calls.{answered, busActionCall, c64AccessCall, call, capacity, capacityBytesCall, cpuReadyCall, cycleCall, debugRegisterCall, dmaActiveCall, numbered, readCall, refused, resetCall, setEnabledCall, setSizeCall, storagePresentCall, tickCall, triggerCall, writeCall};
 use crate::constants::ACCEPTED;
@@ -96,8 +96,8 @@ pub struct Stepped {
 }
 
 // A STATUS byte with the mark of a size.
-fn marked(size: u32, status: u8) -> u8
-    ensures { λ r. ⌜ r ≡ marked size status ⌝ }
+fn with_mark(size: u32, status: u8) -> u8
+    ensures { λ r. ⌜ r ≡ withMark size status ⌝ }
 {
     if chip_mark(size) {
         status | STATUS_VERSION
@@ -111,7 +111,7 @@ fn fresh(enabled: bool, attached: bool, size: u32) -> Reu
     ensures { λ r. ⌜ r ≡ fresh enabled attached size ⌝ }
 {
     let regs = [
-        marked(size, 0),
+        with_mark(size, 0),
         COMMAND_FF00_DISABLE,
         0,
         0,
@@ -164,7 +164,7 @@ impl Reu {
         ensures { λ r. ⌜ r ≡ setSize self size ⌝ }
     {
         let status = self.regs[STATUS];
-        self.regs[STATUS] = marked(size, status);
+        self.regs[STATUS] = with_mark(size, status);
         self.size = size;
         self
     }

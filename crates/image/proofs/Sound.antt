@@ -20,7 +20,7 @@ use Rattle.transfer.specs.Bytes.{bit, setBits}
 use Rattle.transfer.specs.Dma.{isType, isWritePhase}
 use Rattle.transfer.specs.Memory.{isSize, chipMark}
 use Rattle.regs.specs.FinishDma.{counters}
-use Rattle.controller.specs.Enable.{fresh, marked}
+use Rattle.controller.specs.Enable.{fresh, withMark}
 use Rattle.controller.proofs.WellFormed.{fst}
 use Rattle.transfer.proofs.Pick.{by-test}
 use Rattle.transfer.proofs.Bits.{bit-one, and-one, and-none, or-none, or-one}
@@ -74,7 +74,7 @@ raised-fits e {v} h f =
 pub cleared-fits : {k : Bool} (m : ℕ) {v : ℕ} → bit m version ≡ true → FitsRegister k 0 v → FitsRegister k 0 (bitAnd v m)
 cleared-fits m {v} e f = record { byte = and-byte v m (f .byte); mark = λ z. and-one v m 4 (bit-one m 4 e) ∙ f .mark z }
 
-marked-fits : (size v : ℕ) → v < 256 → FitsRegister (chipMark size) 0 (marked size v)
+marked-fits : (size v : ℕ) → v < 256 → FitsRegister (chipMark size) 0 (withMark size v)
 marked-fits size v h = go (chipMark size)
   where
     go : (k : Bool) → FitsRegister k 0 (cond k (bitOr v 16) (bitAnd v 239))
@@ -89,12 +89,12 @@ pub control-fits : {k : Bool} {v : ℕ} → v < 256 → FitsRegister k 10 (setBi
 control-fits {k} {v} h = other-fits 10 (omega arith) (or-lt 8 v 63 h (omega arith))
 
 -- registers whose STATUS has the mark of a size, whatever mark the others go with
-pub mark-regs : {k : Bool} (size : ℕ) {l : List ℕ} → SoundRegs k l → SoundRegs (chipMark size) (set l 0 (marked size (getD l 0 0)))
+pub mark-regs : {k : Bool} (size : ℕ) {l : List ℕ} → SoundRegs k l → SoundRegs (chipMark size) (set l 0 (withMark size (getD l 0 0)))
 mark-regs {k} size {l} r =
-    record { len = length-set l 0 (marked size (getD l 0 0)) ∙ r .len; fits = go l (r .len) (λ i. r .fits i .byte) }
+    record { len = length-set l 0 (withMark size (getD l 0 0)) ∙ r .len; fits = go l (r .len) (λ i. r .fits i .byte) }
   where
     go : (l : List ℕ) → length l ≡ 11 → ((i : ℕ) → getD l i 0 < 256) → (i : ℕ)
-        → FitsRegister (chipMark size) i (getD (set l 0 (marked size (getD l 0 0))) i 0)
+        → FitsRegister (chipMark size) i (getD (set l 0 (withMark size (getD l 0 0))) i 0)
     go [] e h i = absurd (omega arith)
     go (x ∷ l) e h zero = marked-fits size x (h zero)
     go (x ∷ l) e h (suc i) = other-fits (suc i) (omega arith) (h (suc i))
@@ -184,6 +184,6 @@ module _ {r : List ℕ} {c e n : ℕ} {a : Bool} {w : ℕ} {d : Dma} {g z : ℕ}
   pub with-granted : {k : ℕ} → k < 4294967296 → SoundFields r c e n a w d k z
   with-granted h = record { regs = s .regs; c64 = s .c64; exp = s .exp; len = s .len; delay = s .delay; dma = s .dma; granted = h; size = s .size }
 
-  pub with-size : (y : ℕ) → isSize y ≡ true → SoundFields (set r 0 (marked y (getD r 0 0))) c e n a w d g y
+  pub with-size : (y : ℕ) → isSize y ≡ true → SoundFields (set r 0 (withMark y (getD r 0 0))) c e n a w d g y
   with-size y h =
       record { regs = mark-regs y (s .regs); c64 = s .c64; exp = s .exp; len = s .len; delay = s .delay; dma = s .dma; granted = s .granted; size = h }

@@ -43,7 +43,7 @@ registerCount = 11
 abbrev pub unusedRegister : ℕ
 unusedRegister = 255
 
--- ---- bits. STATUS: "bit 4 is the version mark, .. 5 verify error, 6 end of block, 7 interrupt"
+-- ---- bits. STATUS: "bit 4 is the version mark", by L4 "a chip-size mark", ".. 5 verify error, 6 end of block, 7 interrupt"
 
 abbrev pub version : ℕ
 version = 4

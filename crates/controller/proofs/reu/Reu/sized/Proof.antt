@@ -5,7 +5,7 @@ use Rattle.controller.proofs.reu.Reu.sized.Tie as tie
 
 returns : tie.Need-returns
 unfolding setSize
-returns c = rw (c .marked .ensures)
+returns c = rw (c .with-mark .ensures)
 
 pub sized-spec : {M : Type 1} → statement M
 sized-spec =

@@ -18,7 +18,7 @@ returns c =
     let its-known = c .before .struct-known .given in
     let folded : bitAnd (its-args .self .0) (its-join .kept) ≡ its-args .self .0 % 2 ^ its-lines .result
     = elim (its-join .came) [
-      inl p ↦ ap (bitAnd (its-args .self .0)) (p .1) ∙ fold-some (its-args .self .0) (its-lines .result) (p .0 .taken)
+      | inl p ↦ ap (bitAnd (its-args .self .0)) (p .1) ∙ fold-some (its-args .self .0) (its-lines .result) (p .0 .taken)
       | inr p ↦ ap (bitAnd (its-args .self .0)) (p .1) ∙ fold-all (its-args .self .0) (its-lines .result) (its-known .0 .fits) (p .0 .left)
     ] in
     ap (λ (n : ℕ). record { 0 = n }) (folded ∙ ap (λ (k : ℕ). its-args .self .0 % 2 ^ k) (its-lines .ensures))
