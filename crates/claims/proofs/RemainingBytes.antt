@@ -19,7 +19,8 @@ use Rattle.controller.specs.declared.reu.Reu.{Reu}
 use Rattle.controller.specs.Inner.{InRange, InRangeDma}
 use Rattle.controller.specs.Refusals.{wellFormed, refusalOf}
 use Rattle.controller.specs.Reu.{withDma}
-use Rattle.controller.proofs.WellFormed.{well-range, snd}
+use Rattle.transfer.proofs.Pick.{snd}
+use Rattle.controller.proofs.WellFormed.{well-range}
 use Rattle.image.specs.declared.Opened.{Opened}
 use Rattle.image.specs.Fields.{laid, lifted}
 use Rattle.image.specs.Inner.{gets}

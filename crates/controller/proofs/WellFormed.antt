@@ -10,15 +10,7 @@ use Rattle.controller.specs.Inner.{InRange, InRangeDma}
 use Rattle.controller.specs.Refusals.{wellFormed, wellSize}
 use Rattle.controller.specs.Reu.{reg}
 use Rattle.transfer.specs.Dma.{wellTransfer, wellDma}
-
-pub fst : (a b : Bool) → (a && b) ≡ true → a ≡ true
-fst true b e = refl
-fst false b e = e
-
-pub snd : (a b : Bool) → (a && b) ≡ true → b ≡ true
-snd true b e = e
-snd false true e = refl
-snd false false e = e
+use Rattle.transfer.proofs.Pick.{fst, snd}
 
 well-transfer : (d : DmaState) → wellTransfer d ≡ true → InRange d
 well-transfer d e =

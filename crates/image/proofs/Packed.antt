@@ -19,7 +19,8 @@ use Rattle.transfer.specs.Dma.{typeNumber, typeOf}
 use Rattle.transfer.specs.Memory.{isSize}
 use Rattle.controller.specs.Refusals.{wellFormed}
 use Rattle.controller.specs.Inner.{InRange, InRangeDma}
-use Rattle.controller.proofs.WellFormed.{fst, well-range, well-shadow, well-delay, well-size}
+use Rattle.transfer.proofs.Pick.{fst}
+use Rattle.controller.proofs.WellFormed.{well-range, well-shadow, well-delay, well-size}
 use Rattle.image.specs.Radix.{below}
 use Rattle.transfer.specs.Constants.{registerCount}
 use Rattle.image.specs.Fields.{radices, values, laid, lifted}

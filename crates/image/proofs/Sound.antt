@@ -21,8 +21,7 @@ use Rattle.transfer.specs.Dma.{isType, isWritePhase}
 use Rattle.transfer.specs.Memory.{isSize, chipMark}
 use Rattle.regs.specs.FinishDma.{counters}
 use Rattle.controller.specs.Enable.{fresh, withMark}
-use Rattle.controller.proofs.WellFormed.{fst}
-use Rattle.transfer.proofs.Pick.{by-test}
+use Rattle.transfer.proofs.Pick.{by-test, fst}
 use Rattle.transfer.proofs.Bits.{bit-one, and-one, and-none, or-none, or-one}
 use Rattle.image.proofs.Packed.{all-below}
 

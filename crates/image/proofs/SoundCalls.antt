@@ -45,9 +45,8 @@ use Rattle.transfer.specs.Timing.{readAgain, restored, resumes, swapReads, swap
 use Rattle.controller.specs.TickDma.{advance, tickStore, tickRecall, swapRead, swapWrite, tickSwap, differs, withError, tickVerify, tickByType, tickRefresh, tickTail, tickRunning, tickOf, tickDma}
 use Rattle.transfer.specs.Dma.{seenBy}
 use Rattle.controller.specs.Cycle.{counted, mostGranted, cycleBy, runReuCycle}
-use Rattle.transfer.proofs.Pick.{by-test}
+use Rattle.transfer.proofs.Pick.{by-test, fst, snd}
 use Rattle.transfer.proofs.Sizes.{size-512}
-use Rattle.controller.proofs.WellFormed.{fst, snd}
 use Rattle.image.specs.Valid.{Bytes}
 use Rattle.image.proofs.Sound.{SoundRegs, fresh-regs, and-byte, set-each, store, plain-fits, cleared-fits, mask-fits, control-fits, raise, count-pair, count-all, SoundTransfer, SoundDma, with-step, Sound, with-regs, with-shadows, with-delay, with-dma, with-granted, with-size}
 

@@ -18,7 +18,8 @@ use Rattle.transfer.specs.Constants.{version}
 use Rattle.transfer.specs.Bytes.{bit}
 use Rattle.transfer.specs.Memory.{isSize, chipMark}
 use Rattle.controller.specs.Reu.{reg}
-use Rattle.controller.proofs.WellFormed.{fst, snd, well-shadow, well-delay, well-size}
+use Rattle.transfer.proofs.Pick.{fst, snd}
+use Rattle.controller.proofs.WellFormed.{well-shadow, well-delay, well-size}
 use Rattle.image.specs.Layout.{packImage, reuAt}
 use Rattle.image.specs.Open.{openImage}
 use Rattle.image.proofs.Opening.{opened-long, opened-ok}

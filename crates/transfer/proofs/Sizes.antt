@@ -2,7 +2,7 @@
 use Prim.Native.Nat.{ℕ, zero, suc, _+_, _-_, _*_, _/_, _%_, _^_, _≤_, _<_}
 use native.Mathlib.Nat.{le-trans, lt-of-lt-of-le, mod-eq-of-lt, sub-add-cancel, one-mul, pow-suc, mul-comm}
 use native.Mathlib.Omega.{arith}
-use mathlib.Core.Bool.{Bool, true, false, _&&_}
+use mathlib.Core.Bool.{true, _&&_}
 use mathlib.Core.Logic.{_⊎_, inl, inr}
 use mathlib.Core.Path.{_≡_, refl, sym, ap, _∙_, subst}
 use lib.Bits.{bitAnd, and-mask}
@@ -11,6 +11,7 @@ use lib.Dec.{eqb, leb}
 use lib.Pow.{pow-lt, pow-mono, pow-pos, shl-exact, mod-mod-pow}
 use borrow.Author.Tests.{eq-eqb, eqb-true, leb-true, le-leb}
 use Rattle.transfer.specs.Memory.{lines, isSize}
+use Rattle.transfer.proofs.Pick.{fst, snd}
 
 -- ---- the code's mask
 
@@ -62,15 +63,6 @@ pub record Lines (size : ℕ) : Type 0 where
   pub fewest : 17 ≤ lines size
   pub most : lines size ≤ 19
   pub power : 2 ^ lines size ≡ size
-
-fst : (a b : Bool) → a && b ≡ true → a ≡ true
-fst true b e = refl
-fst false b e = e
-
-snd : (a b : Bool) → a && b ≡ true → b ≡ true
-snd true b e = e
-snd false true e = refl
-snd false false e = e
 
 pub size-lines : (size : ℕ) → isSize size ≡ true → Lines size
 unfolding isSize lines
