@@ -1,16 +1,16 @@
 -- Worked examples of the definitions, with what was expected written by hand: bytes stored, faults, lengths of files, BA, two panes side by side.
 use mathlib.Core.Path.{_≡_, refl}
 use mathlib.Core.Bool.{true, false}
-use mathlib.Core.List.{List, [], _∷_, _++_}
+use mathlib.Core.List.{List, [], _∷_, _++_, map}
 use lib.ListN.{replicate}
 use Rattle.text.specs.Faults.{faultOf, faultsFrom}
 use Rattle.text.specs.Shown.{_⊕_, ascii, decimalUpTo, fillFrom, hexOf}
 use Rattle.text.specs.Typed.{digitsFrom, numberOf, same, wordFrom, wordsFrom}
 use Rattle.lines.specs.Beside.{besideRow}
 use Rattle.lines.specs.Clock.{inputsOf, isPattern}
-use Rattle.lines.specs.Commands.{commandFault, isComment, lineFault, otherFault, placeIn, placeOf}
+use Rattle.lines.specs.Commands.{commandFault, isComment, lineFault, otherFault, placeIn, placeOf, sizeFault, sizeTyped}
 use Rattle.lines.specs.Files.{lengthFault, lengthText, reasonText}
-use Rattle.lines.specs.Memory.{bytesFrom, bytesLine, bytesText, each, stored, storeFault}
+use Rattle.lines.specs.Memory.{bytesFrom, bytesLine, bytesText, each, rangeFault, showFault, stored, storeFault}
 
 two-bytes : stored (ascii "> $2 11 +34") (replicate 5 0) ≡ 0 ∷ 0 ∷ 0x11 ∷ 0x22 ∷ 0 ∷ []
 unfolding wordsFrom wordFrom numberOf digitsFrom bytesFrom each
@@ -20,16 +20,16 @@ shown-again : bytesLine false (0 ∷ 0 ∷ 0x11 ∷ 0x22 ∷ 0 ∷ []) 2 3 ≡ a
 unfolding bytesText hexOf _⊕_
 shown-again = refl
 
-past-the-end : lineFault (ascii "> FFFF 1 2") ≡ ascii "> runs past the last address"
+past-the-end : lineFault (ascii "> FFFF 1 2") 0x7FFFF ≡ ascii "> runs past the last address"
 unfolding lineFault isComment commandFault storeFault faultOf faultsFrom fillFrom same wordsFrom wordFrom numberOf digitsFrom _⊕_
 past-the-end = refl
 
-no-command : lineFault (ascii "jump 1000") ≡ ascii "unknown command: jump (help lists them)"
+no-command : lineFault (ascii "jump 1000") 0x7FFFF ≡ ascii "unknown command: jump (help lists them)"
 unfolding lineFault isComment commandFault otherFault fillFrom same wordsFrom wordFrom _⊕_
 no-command = refl
 
 -- a word that only ends in a name is no command: nothing is reset
-not-reset : lineFault (0 ∷ ascii "reset") ≡ ascii "unknown command: " ++ (0 ∷ ascii "reset (help lists them)")
+not-reset : lineFault (0 ∷ ascii "reset") 0x7FFFF ≡ ascii "unknown command: " ++ (0 ∷ ascii "reset (help lists them)")
 unfolding lineFault isComment commandFault otherFault fillFrom same wordsFrom wordFrom _⊕_
 not-reset = refl
 
@@ -60,16 +60,38 @@ short-bus : lengthFault (ascii "x") 1 34 false 65536 ≡ ascii "refused: x.bus h
 unfolding lengthText reasonText decimalUpTo fillFrom _⊕_
 short-bus = refl
 
+-- the storage's last offset goes by its size: 1FFFF is 128 KiB's
+last-offset : lineFault (ascii ">s 1FFFF 1") 0x1FFFF ≡ []
+unfolding lineFault isComment commandFault storeFault faultOf faultsFrom same wordsFrom wordFrom numberOf digitsFrom _⊕_
+last-offset = refl
+
+past-its-size : lineFault (ascii "ms 20000") 0x1FFFF ≡ ascii "too large: 20000 (at most 01FFFF)"
+unfolding lineFault isComment commandFault showFault rangeFault faultOf faultsFrom fillFrom hexOf same wordsFrom wordFrom numberOf digitsFrom _⊕_
+past-its-size = refl
+
+-- L4's three sizes; 80, which is 128 in hexadecimal, is none
+three-sizes : map sizeTyped (ascii "128" ∷ ascii "256" ∷ ascii "512" ∷ []) ≡ 131072 ∷ 262144 ∷ 524288 ∷ []
+unfolding sizeTyped same
+three-sizes = refl
+
+a-size : lineFault (ascii "size 128") 0x7FFFF ≡ []
+unfolding lineFault isComment commandFault sizeFault sizeTyped same wordsFrom wordFrom
+a-size = refl
+
+no-size : lineFault (ascii "size 80") 0x7FFFF ≡ ascii "usage: size 128, size 256 or size 512 (KiB), before enable"
+unfolding lineFault isComment commandFault sizeFault sizeTyped fillFrom same wordsFrom wordFrom _⊕_
+no-size = refl
+
 -- where every name stands, and where what is none
 third : placeOf (ascii "ms") ≡ 2
 unfolding placeIn same
 third = refl
 
-none : placeOf (ascii "resets") ≡ 22
+none : placeOf (ascii "resets") ≡ 23
 unfolding placeIn same
 none = refl
 
-a-comment : lineFault (ascii "# jump") ≡ []
+a-comment : lineFault (ascii "# jump") 0x7FFFF ≡ []
 unfolding lineFault isComment wordFrom
 a-comment = refl
 

@@ -66,7 +66,7 @@ place-of : (n k : ℕ) → placed n ≡ true → k < n → placeOf (nameAt k) �
 place-of zero k e h = absurd (omega arith)
 place-of (suc n) k e h = placed-at n k (eqb (placeOf (nameAt n)) n) refl e h (place-of n k)
 
-all-placed : placed 22 ≡ true
+all-placed : placed 23 ≡ true
 unfolding placeIn same
 all-placed = refl
 
@@ -74,34 +74,34 @@ all-placed = refl
 
 module _ (w : List ℕ) {p : ℕ} (e : p ≡ placeOf w) where
   -- where that is a name's place, the word is the name
-  pub known : {k : ℕ} → p ≡ k → k < 22 → nameAt k ≡ w
+  pub known : {k : ℕ} → p ≡ k → k < 23 → nameAt k ≡ w
   known {k} q h =
       let r : placeOf w ≡ k = sym e ∙ q in
       subst (λ (x : ℕ). nameAt x ≡ w) r (found names w (omega arith))
 
   -- and what is right of the name is right of the word
-  pub named : {A : Type 0} (f : List ℕ → A) {r : A} {k : ℕ} → p ≡ k → k < 22 → r ≡ f (nameAt k) → r ≡ f w
+  pub named : {A : Type 0} (f : List ℕ → A) {r : A} {k : ℕ} → p ≡ k → k < 23 → r ≡ f (nameAt k) → r ≡ f w
   named f q h a = a ∙ ap f (known q h)
 
   -- where it is not, the word is another
-  pub other : (v : List ℕ) {k : ℕ} → nameAt k ≡ v → k < 22 → (p ≡ k → ⊥) → same v w ≡ false
+  pub other : (v : List ℕ) {k : ℕ} → nameAt k ≡ v → k < 23 → (p ≡ k → ⊥) → same v w ≡ false
   other v {k} a h n = go (same v w) refl
     where
       go : (b : Bool) → same v w ≡ b → same v w ≡ false
       go false q = q
       go true q =
           let its-place : placeOf w ≡ k =
-          ap placeOf (sym (a ∙ same-true v w q)) ∙ place-of 22 k all-placed h in
+          ap placeOf (sym (a ∙ same-true v w q)) ∙ place-of 23 k all-placed h in
           absurd (n (e ∙ its-place))
 
 -- ---- as a loop looks for it
 
 -- the place is not before i
 abbrev pub From : List ℕ → ℕ → Type 0
-From w i = (i ≤ 22) × (placeOf w ≡ i + placeIn (drop i names) w)
+From w i = (i ≤ 23) × (placeOf w ≡ i + placeIn (drop i names) w)
 
 module _ (w : List ℕ) (i : ℕ) (inv : From w i) where
-  module _ (h : i < 22) {b : Bool} (e : b ≡ same (nameAt i) w) where
+  module _ (h : i < 23) {b : Bool} (e : b ≡ same (nameAt i) w) where
     step : placeOf w ≡ i + cond b 0 (suc (placeIn (drop (i + 1) names) w))
     unfolding placeIn
     step =
@@ -118,7 +118,7 @@ module _ (w : List ℕ) (i : ℕ) (inv : From w i) where
         (omega arith, omega arith)
 
   -- no more names
-  pub ended : 22 ≤ i → i ≡ placeOf w
+  pub ended : 23 ≤ i → i ≡ placeOf w
   unfolding placeIn
   ended h =
       sym (inv .1 ∙ ap (λ (vs : List (List ℕ)). i + placeIn vs w) (drop-of-length-le names h) ∙ add-zero i)

@@ -27,14 +27,15 @@ isSwitch w = oneOf ("ff00" ∷ "FF00" ∷ "enable" ∷ "disable" ∷ "reset" ∷
 
 -- whether a command is there to change the controller
 abbrev pub isChange : List ℕ → Bool
-isChange w = cond (is "w" w) true (isSwitch w)
+isChange w = cond (oneOf ("w" ∷ "size" ∷ []) w) true (isSwitch w)
 
 -- every name
 abbrev pub names : List (List ℕ)
 names =
     ascii "r" ∷ ascii "m" ∷ ascii "ms" ∷ ascii ">" ∷ ascii ">s" ∷ ascii "w" ∷ ascii "rd" ∷ ascii "ff00"
     ∷ ascii "FF00" ∷ ascii "z" ∷ ascii "g" ∷ ascii "ba" ∷ ascii "cycle" ∷ ascii "enable" ∷ ascii "disable"
-    ∷ ascii "reset" ∷ ascii "new" ∷ ascii "save" ∷ ascii "open" ∷ ascii "beside" ∷ ascii "help" ∷ ascii "q" ∷ []
+    ∷ ascii "reset" ∷ ascii "new" ∷ ascii "save" ∷ ascii "open" ∷ ascii "beside" ∷ ascii "help" ∷ ascii "q" ∷ ascii "size"
+    ∷ []
 
 abbrev pub nameAt : ℕ → List ℕ
 nameAt i = getD names i []
@@ -73,6 +74,16 @@ baFault t =
     let usage : String = "usage: % PATTERN, a letter a cycle: h high, l low, f falls, r rises, 0 to 7 the inputs" in
     cond (isPattern (wordOf 1 t)) (exactly 2 usage t) (fillOf usage (wordOf 0 t))
 
+-- L4: "131,072, 262,144 or 524,288", typed as so many KiB in decimal; 0 for any other word
+unfoldable pub sizeTyped : List ℕ → ℕ
+sizeTyped w = cond (is "128" w) 131072 (cond (is "256" w) 262144 (cond (is "512" w) 524288 0))
+
+-- "A size in bytes may be set before storage is attached"
+unfoldable pub sizeFault : List ℕ → List ℕ
+sizeFault t =
+    let usage : String = "usage: % 128, % 256 or % 512 (KiB), before enable" in
+    cond (eqb (sizeTyped (wordOf 1 t)) 0) (fillOf usage (wordOf 0 t)) (exactly 2 usage t)
+
 -- commands that are a word alone; what is no command
 unfoldable pub otherFault : List ℕ → List ℕ → List ℕ
 otherFault w t =
@@ -80,21 +91,22 @@ otherFault w t =
     (cond (oneOf ("r" ∷ "new" ∷ "help" ∷ "q" ∷ []) w) (exactly 1 "usage: %, with nothing after it" t)
     (fillOf "unknown command: % (help lists them)" (wordOf 0 t)))
 
--- the last address of the bus is 65,535, the last offset of the storage 524,287
-unfoldable pub commandFault : List ℕ → List ℕ → List ℕ
-commandFault w t =
+-- the last address of the bus is 65,535; `last` is the last offset of the storage
+unfoldable pub commandFault : List ℕ → List ℕ → ℕ → List ℕ
+commandFault w t last =
     cond (is "m" w) (showFault t 65535)
-    (cond (is "ms" w) (showFault t 524287)
+    (cond (is "ms" w) (showFault t last)
     (cond (is ">" w) (storeFault t 65535)
-    (cond (is ">s" w) (storeFault t 524287)
+    (cond (is ">s" w) (storeFault t last)
     (cond (is "w" w) (writeFault t)
     (cond (is "rd" w) (readFault t)
     (cond (oneOf ("z" ∷ "g" ∷ "cycle" ∷ []) w) (countFault t)
     (cond (oneOf ("save" ∷ "open" ∷ "beside" ∷ []) w) (fileFault t)
-    (cond (is "ba" w) (baFault t) (otherFault w t)))))))))
+    (cond (is "ba" w) (baFault t)
+    (cond (is "size" w) (sizeFault t) (otherFault w t))))))))))
 
 -- of any line: 159 characters are the most, and a comment has none
-unfoldable pub lineFault : List ℕ → List ℕ
-lineFault t =
+unfoldable pub lineFault : List ℕ → ℕ → List ℕ
+lineFault t last =
     cond (ltb 159 (length t)) ([] ⊕ ascii "this line is too long: 159 characters are the most")
-    (cond (isComment t) [] (commandFault (wordOf 0 t) t))
+    (cond (isComment t) [] (commandFault (wordOf 0 t) t last))

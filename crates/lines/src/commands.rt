@@ -2,7 +2,6 @@
 use crate::clock::is_pattern;
 use crate::keys;
 use crate::memory::LAST_ADDRESS;
-use crate::memory::LAST_OFFSET;
 use crate::memory::show_fault;
 use crate::memory::store_fault;
 use crate::registers::read_fault;
@@ -15,8 +14,8 @@ ghost use mathlib.Core.List.{[]};
 ghost use mathlib.Core.Bool.{cond};
 ghost use lib.Dec.{eqb};
 ghost use Rattle.text.specs.Shown.{_⊕_, fillFrom, textOf};
-ghost use Rattle.text.specs.Typed.{wordOf, wordsOf};
-ghost use Rattle.lines.specs.Commands.{baFault, commandFault, countFault, fileFault, isChange, isComment, isSwitch, lineFault, nameAt, otherFault, placeOf};
+ghost use Rattle.text.specs.Typed.{same, wordOf, wordsOf};
+ghost use Rattle.lines.specs.Commands.{baFault, commandFault, countFault, fileFault, isChange, isComment, isSwitch, lineFault, nameAt, otherFault, placeOf, sizeFault, sizeTyped};
 ghost use Rattle.lines.specs.Commands.{exactly as exactlyOf};
 
 const LAST_NUMBER: u32 = 0xFFFFFF;
@@ -27,7 +26,7 @@ fn name(i: usize) -> Line
 {
     Line::new()
         .text(
-            b"r m ms > >s w rd ff00 FF00 z g ba cycle enable disable reset new save open beside help q ",
+            b"r m ms > >s w rd ff00 FF00 z g ba cycle enable disable reset new save open beside help q size ",
         )
         .word(i)
 }
@@ -67,10 +66,12 @@ fn is_switch(line: Line) -> bool
 pub fn is_change(line: Line) -> bool
     ensures { λ r. ⌜ r ≡ isChange (wordOf 0 (textOf line)) ⌝ }
 {
-    if place(line) == keys::W {
-        return true;
+    let place = place(line);
+    match place {
+        keys::W => true,
+        keys::SIZE => true,
+        _ => is_switch(line),
     }
-    is_switch(line)
 }
 
 // A line with no words, or whose first begins with #.
@@ -134,6 +135,40 @@ fn ba_fault(line: Line) -> Line
     fill(usage, line.word(0))
 }
 
+// Whether a word is a name.
+fn is(name: &[u8], word: Line) -> bool
+    ensures { λ r. ⌜ r ≡ same ([] ⊕ now (name .entry)) (textOf word) ⌝ }
+{
+    Line::new().text(name).same(word)
+}
+
+// The size in bytes that a word says in KiB: 0 where it is none of the three. The numbers of other commands are hexadecimal, but these are
+// the names that the units have.
+pub fn size_typed(word: Line) -> u64
+    ensures { λ r. ⌜ r ≡ sizeTyped (textOf word) ⌝ }
+{
+    if is(b"128", word) {
+        return 131072;
+    }
+    if is(b"256", word) {
+        return 262144;
+    }
+    if is(b"512", word) {
+        return 524288;
+    }
+    0
+}
+
+fn size_fault(line: Line) -> Line
+    ensures { λ r. ⌜ textOf r ≡ sizeFault (textOf line) ⌝ }
+{
+    let usage = b"usage: % 128, % 256 or % 512 (KiB), before enable";
+    if size_typed(line.word(1)) == 0 {
+        return fill(usage, line.word(0));
+    }
+    exactly(line, 2, usage)
+}
+
 // Of commands that are a word alone.
 fn alone_fault(line: Line) -> Line
     ensures { λ r. ⌜ textOf r ≡ exactlyOf 1 "usage: %, with nothing after it" (textOf line) ⌝ }
@@ -157,15 +192,16 @@ fn other_fault(line: Line) -> Line
     }
 }
 
-fn command_fault(line: Line) -> Line
-    ensures { λ r. ⌜ textOf r ≡ commandFault (wordOf 0 (textOf line)) (textOf line) ⌝ }
+// `last` is the last offset of the storage, which goes by its size.
+fn command_fault(line: Line, last: u32) -> Line
+    ensures { λ r. ⌜ textOf r ≡ commandFault (wordOf 0 (textOf line)) (textOf line) last ⌝ }
 {
     let place = place(line);
     match place {
         keys::M => show_fault(line, LAST_ADDRESS),
-        keys::MS => show_fault(line, LAST_OFFSET),
+        keys::MS => show_fault(line, last),
         keys::POKE => store_fault(line, LAST_ADDRESS),
-        keys::POKES => store_fault(line, LAST_OFFSET),
+        keys::POKES => store_fault(line, last),
         keys::W => write_fault(line),
         keys::RD => read_fault(line),
         keys::Z => count_fault(line),
@@ -175,13 +211,14 @@ fn command_fault(line: Line) -> Line
         keys::OPEN => file_fault(line),
         keys::BESIDE => file_fault(line),
         keys::BA => ba_fault(line),
+        keys::SIZE => size_fault(line),
         _ => other_fault(line),
     }
 }
 
 // Of any line. A comment is no fault.
-pub fn line_fault(line: Line) -> Line
-    ensures { λ r. ⌜ textOf r ≡ lineFault (textOf line) ⌝ }
+pub fn line_fault(line: Line, last: u32) -> Line
+    ensures { λ r. ⌜ textOf r ≡ lineFault (textOf line) last ⌝ }
 {
     if 159 < line.length() {
         return Line::new().text(b"this line is too long: 159 characters are the most");
@@ -189,5 +226,5 @@ pub fn line_fault(line: Line) -> Line
     if is_comment(line) {
         return Line::new();
     }
-    command_fault(line)
+    command_fault(line, last)
 }

@@ -44,6 +44,8 @@ pub const BESIDE: usize = 19;
 pub const HELP: usize = 20;
 // q
 pub const Q: usize = 21;
+// size
+pub const SIZE: usize = 22;
 
 // How many there are.
-pub const COUNT: usize = 22;
+pub const COUNT: usize = 23;

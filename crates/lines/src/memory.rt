@@ -15,10 +15,8 @@ ghost use Rattle.text.specs.Bytes.{byteAt};
 ghost use Rattle.text.specs.Shown.{_⊕_, ascii, hexOf, textOf};
 ghost use Rattle.lines.specs.Memory.{address, addressText, bytesLine, endOf, rangeFault, showFault, storeFault, stored, typed};
 
-// The last address of the bus, and the last offset of the storage.
+// The last address of the bus.
 pub const LAST_ADDRESS: u32 = 65535;
-
-pub const LAST_OFFSET: u32 = 524287;
 
 const PER_LINE: usize = 16;
 // How many more bytes are shown where no end is given.

@@ -12,10 +12,10 @@ use Rattle.lines.proofs.commands.command_fault.Tie as tie
 
 -- what is wrong with the line, by its word
 abbrev by : tie.After-place → List ℕ → List ℕ
-by k w = commandFault w (textOf (k .before .args .line))
+by k w = commandFault w (textOf (k .before .args .line)) (k .before .args .last)
 
 known :
-    (k : tie.After-place) {n : ℕ} {r : List ℕ} → k .place .result ≡ n → n < 22 → r ≡ by k (nameAt n) →
+    (k : tie.After-place) {n : ℕ} {r : List ℕ} → k .place .result ≡ n → n < 23 → r ≡ by k (nameAt n) →
     r ≡ by k (wordOf 0 (textOf (k .before .args .line)))
 known k q h p = named _ (k .place .ensures) (by k) q h p
 
@@ -72,32 +72,37 @@ unfolding commandFault same
 returns-13 c = known (c .before .before) (c .before .match .keys13) (omega arith) (c .ba-fault .ensures)
 
 returns-14 : tie.Need-returns-14
+unfolding commandFault same
+returns-14 c = known (c .before .before) (c .before .match .keys14) (omega arith) (c .size-fault .ensures)
+
+returns-15 : tie.Need-returns-15
 unfolding commandFault
-returns-14 c =
+returns-15 c =
     let e = c .before .before .place .ensures in
     let rest = c .before .match .rest in
     rw (
-      other _ e (ascii "m") refl (omega arith) (rest .0 .0 .0 .0 .0 .0 .0 .0 .0 .0 .0 .0 .1),
-      other _ e (ascii "ms") refl (omega arith) (rest .0 .0 .0 .0 .0 .0 .0 .0 .0 .0 .0 .1),
-      other _ e (ascii ">") refl (omega arith) (rest .0 .0 .0 .0 .0 .0 .0 .0 .0 .0 .1),
-      other _ e (ascii ">s") refl (omega arith) (rest .0 .0 .0 .0 .0 .0 .0 .0 .0 .1),
-      other _ e (ascii "w") refl (omega arith) (rest .0 .0 .0 .0 .0 .0 .0 .0 .1),
-      other _ e (ascii "rd") refl (omega arith) (rest .0 .0 .0 .0 .0 .0 .0 .1),
-      other _ e (ascii "z") refl (omega arith) (rest .0 .0 .0 .0 .0 .0 .1),
-      other _ e (ascii "g") refl (omega arith) (rest .0 .0 .0 .0 .0 .1),
-      other _ e (ascii "cycle") refl (omega arith) (rest .0 .0 .0 .0 .1),
-      other _ e (ascii "save") refl (omega arith) (rest .0 .0 .0 .1),
-      other _ e (ascii "open") refl (omega arith) (rest .0 .0 .1),
-      other _ e (ascii "beside") refl (omega arith) (rest .0 .1),
-      other _ e (ascii "ba") refl (omega arith) (rest .1),
+      other _ e (ascii "m") refl (omega arith) (rest .0 .0 .0 .0 .0 .0 .0 .0 .0 .0 .0 .0 .0 .1),
+      other _ e (ascii "ms") refl (omega arith) (rest .0 .0 .0 .0 .0 .0 .0 .0 .0 .0 .0 .0 .1),
+      other _ e (ascii ">") refl (omega arith) (rest .0 .0 .0 .0 .0 .0 .0 .0 .0 .0 .0 .1),
+      other _ e (ascii ">s") refl (omega arith) (rest .0 .0 .0 .0 .0 .0 .0 .0 .0 .0 .1),
+      other _ e (ascii "w") refl (omega arith) (rest .0 .0 .0 .0 .0 .0 .0 .0 .0 .1),
+      other _ e (ascii "rd") refl (omega arith) (rest .0 .0 .0 .0 .0 .0 .0 .0 .1),
+      other _ e (ascii "z") refl (omega arith) (rest .0 .0 .0 .0 .0 .0 .0 .1),
+      other _ e (ascii "g") refl (omega arith) (rest .0 .0 .0 .0 .0 .0 .1),
+      other _ e (ascii "cycle") refl (omega arith) (rest .0 .0 .0 .0 .0 .1),
+      other _ e (ascii "save") refl (omega arith) (rest .0 .0 .0 .0 .1),
+      other _ e (ascii "open") refl (omega arith) (rest .0 .0 .0 .1),
+      other _ e (ascii "beside") refl (omega arith) (rest .0 .0 .1),
+      other _ e (ascii "ba") refl (omega arith) (rest .0 .1),
+      other _ e (ascii "size") refl (omega arith) (rest .1),
     )
     (c .other-fault .ensures)
 
 pub command-fault-spec : {M : Type 1} → statement M
 command-fault-spec =
     tie.close
-    (tie.spec (λ c κs. search needs) (λ c κs. search needs) (λ c κs. search needs) (λ c κs. search needs)
+    (tie.spec (λ c κs. search needs) (λ c κs. search needs) (λ c κs. search needs) (λ c κs. search needs) (λ c κs. search needs)
     (λ c κs. search needs) (λ c κs. search needs) (λ c κs. search needs) (λ c κs. search needs) (λ c κs. search needs)
     (λ c κs. search needs) (λ c κs. search needs) (λ c κs. search needs) (λ c κs. search needs) (λ c κs. search needs)
     (λ c κs. search needs) returns returns-2 returns-3 returns-4 returns-5 returns-6 returns-7 returns-8 returns-9
-    returns-10 returns-11 returns-12 returns-13 returns-14)
+    returns-10 returns-11 returns-12 returns-13 returns-14 returns-15)

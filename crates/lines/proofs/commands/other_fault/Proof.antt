@@ -19,7 +19,7 @@ abbrev its-line : tie.After-place → List ℕ
 its-line k = textOf (k .before .before .before .args .line)
 
 alone :
-    (k : tie.After-place) {n : ℕ} {r : List ℕ} → k .place .result ≡ n → n < 22 → true ≡ four (nameAt n) →
+    (k : tie.After-place) {n : ℕ} {r : List ℕ} → k .place .result ≡ n → n < 23 → true ≡ four (nameAt n) →
     r ≡ exactly 1 "usage: %, with nothing after it" (its-line k) → r ≡ otherFault (wordOf 0 (its-line k)) (its-line k)
 unfolding otherFault
 alone k q h a p =

@@ -15,7 +15,7 @@ abbrev Inv-loop : tie.InvT-loop
 Inv-loop word i₀ i = From (textOf word) i
 
 abbrev μ-loop : tie.MeasureT-loop
-μ-loop word i₀ i = 22 - i
+μ-loop word i₀ i = 23 - i
 
 loop-holds : tie.Need-loop-holds Inv-loop μ-loop
 loop-holds c = (omega arith, sym (zero-add _))
