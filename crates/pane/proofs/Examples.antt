@@ -5,22 +5,32 @@ use Prim.Native.Nat.{ℕ}
 use lib.ListN.{replicate}
 use Rattle.controller.specs.Calls.{dmaActiveCall}
 use Rattle.transfer.specs.Dma.{lengthOf, typeOf}
+use Rattle.transfer.proofs.Sizes.{size-512}
 use Rattle.controller.specs.Refusals.{checked, refusalOf, wellFormed}
 use Rattle.image.specs.Layout.{imageSize, reuAt}
 use Rattle.image.specs.Open.{bytesOk, imageOk, openImage}
 use Rattle.reu.specs.Exports.{code, look, reuDmaActive}
-use Rattle.pane.specs.Rows.{copyOf, flagsRow, grantedIn, grantedRow, heldRow, refusedRow, remainingIn, rowOf, runningRow, transferRow}
+use Rattle.pane.specs.Rows.{copyOf, flagsRow, grantedIn, grantedRow, heldRow, refusedRow, remainingIn, rowOf, runningRow, sizeIn, storageRow, transferRow}
 use Rattle.text.specs.Shown.{_⊕_, ascii, bitsFrom, decimalUpTo, hexOf}
 
--- flags 0D: enabled, attached, armed; a swap of two bytes in its write phase at bus 2000 and expansion F80000, with 01020304 cycles granted
+-- STATUS 10 and byte 19 00: 512 KiB and its mark; flags 0D: enabled, attached, armed; a swap of two bytes in its write phase at bus 2000 and expansion F80000, with 01020304 cycles granted
 unfoldable image : List ℕ
 image =
-    replicate 18 0 ++ (0x0D ∷ 0 ∷ 0 ∷ 1 ∷ 2 ∷ 1 ∷ 0x00 ∷ 0x20 ∷ 0x00 ∷ 0x00 ∷ 0xF8 ∷ 2 ∷ 0 ∷ 0x33 ∷ 0x1C
+    0x10 ∷ replicate 17 0 ++ (0x0D ∷ 0 ∷ 0 ∷ 1 ∷ 2 ∷ 1 ∷ 0x00 ∷ 0x20 ∷ 0x00 ∷ 0x00 ∷ 0xF8 ∷ 2 ∷ 0 ∷ 0x33 ∷ 0x1C
     ∷ 0x04 ∷ 0x03 ∷ 0x02 ∷ 0x01 ∷ [])
 
 armed : flagsRow image 12 ≡ ascii "machine      enabled=1 attached=1 armed=1"
 unfolding image flagsRow bitsFrom _⊕_
 armed = refl
+
+-- bits 2-3 of byte 19, whatever its bits 0-1 are
+half : storageRow (replicate 19 0 ++ (0b0111 ∷ replicate 17 0)) ≡ ascii "storage      256 KiB"
+unfolding storageRow sizeIn decimalUpTo _⊕_
+half = refl
+
+quarter : storageRow (replicate 19 0 ++ (0b1001 ∷ replicate 17 0)) ≡ ascii "storage      128 KiB"
+unfolding storageRow sizeIn decimalUpTo _⊕_
+quarter = refl
 
 -- 16,909,060 is 01020304; the top is a byte FF four times
 granted : grantedRow image ≡ ascii "granted      +16909060 cycles"
@@ -35,24 +45,24 @@ swaps : transferRow image ≡ ascii "transfer     swap, write phase"
 unfolding image transferRow _⊕_
 swaps = refl
 
-place : runningRow image 19 ≡ ascii "  at         c64 2000 exp F80000 left 00002"
+place : runningRow image 20 ≡ ascii "  at         c64 2000 exp F80000 left 00002"
 unfolding image runningRow remainingIn lengthOf hexOf _⊕_
 place = refl
 
 -- two bytes of 0 are 65,536, and FF FF are 65,535; a transfer is there since byte 21 is 1
-left-all : runningRow (replicate 21 0 ++ (1 ∷ replicate 15 0)) 19 ≡ ascii "  at         c64 0000 exp 000000 left 10000"
+left-all : runningRow (replicate 21 0 ++ (1 ∷ replicate 15 0)) 20 ≡ ascii "  at         c64 0000 exp 000000 left 10000"
 unfolding runningRow remainingIn lengthOf hexOf _⊕_
 left-all = refl
 
-left-less : runningRow (replicate 21 0 ++ (1 ∷ replicate 7 0 ++ (0xFF ∷ 0xFF ∷ replicate 6 0))) 19 ≡ ascii "  at         c64 0000 exp 000000 left 0FFFF"
+left-less : runningRow (replicate 21 0 ++ (1 ∷ replicate 7 0 ++ (0xFF ∷ 0xFF ∷ replicate 6 0))) 20 ≡ ascii "  at         c64 0000 exp 000000 left 0FFFF"
 unfolding runningRow remainingIn lengthOf hexOf _⊕_
 left-less = refl
 
-latch : runningRow image 20 ≡ ascii "  latch      33 first=1 odd=1 tail=0"
+latch : runningRow image 21 ≡ ascii "  latch      33 first=1 odd=1 tail=0"
 unfolding image runningRow bitsFrom hexOf _⊕_
 latch = refl
 
-options : runningRow image 21 ≡ ascii "  options    fixc64=0 fixexp=0 load=1"
+options : runningRow image 22 ≡ ascii "  options    fixc64=0 fixexp=0 load=1"
 unfolding image runningRow bitsFrom _⊕_
 options = refl
 
@@ -60,7 +70,7 @@ options = refl
 
 runs : reuDmaActive image ≡ 1
 unfolding image look checked openImage imageOk bytesOk wellFormed dmaActiveCall refusalOf code reuAt typeOf lengthOf
-runs = refl
+runs = simp size-512
 
 too-short : reuDmaActive (replicate 34 0) ≡ 16777216
 unfolding look checked openImage
@@ -79,16 +89,21 @@ accepted-row : rowOf image 12 ≡ ascii "machine      enabled=1 attached=1 armed
 unfolding rowOf heldRow
 accepted-row = rw runs armed
 
-accepted-says-nothing : rowOf image 22 ≡ []
+-- of an accepted image, directly behind the delay
+whole : rowOf image 17 ≡ ascii "storage      512 KiB"
+unfolding image rowOf heldRow storageRow sizeIn decimalUpTo _⊕_
+whole = rw runs
+
+accepted-says-nothing : rowOf image 23 ≡ []
 unfolding image rowOf heldRow runningRow
 accepted-says-nothing = rw runs
 
 -- a refused one has no row but that
-refused-short : rowOf (replicate 34 0) 22 ≡ ascii "image        refused by 1: no controller"
+refused-short : rowOf (replicate 34 0) 23 ≡ ascii "image        refused by 1: no controller"
 unfolding rowOf refusedRow decimalUpTo _⊕_
 refused-short = rw too-short
 
-refused-range : rowOf (replicate imageSize 255) 22 ≡ ascii "image        refused by 2: no controller"
+refused-range : rowOf (replicate imageSize 255) 23 ≡ ascii "image        refused by 2: no controller"
 unfolding rowOf refusedRow decimalUpTo _⊕_
 refused-range = rw out-of-range
 

@@ -1,21 +1,26 @@
--- The numbers of the image's list, and the bytes that the rows read: the count of granted cycles, and what remains of a transfer.
+-- The numbers of the image's list, and the bytes that the rows read: the size, the count of granted cycles, and what remains of a transfer.
 use mathlib.Core.Path.{_≡_, refl, sym, _∙_, ap}
 use mathlib.Core.List.{List, [], _∷_, _++_}
-use Prim.Native.Nat.{ℕ, _+_, _*_}
+use Prim.Native.Nat.{ℕ, _+_, _*_, _/_}
 use native.Mathlib.Omega.{arith}
 use lib.ListN.{length, drop, take}
 use lib.Seq.{drop-drop, getD-drop}
 use Rattle.transfer.specs.Dma.{lengthOf}
 use Rattle.image.specs.Fields.{lifted, radices, size}
-use Rattle.image.specs.Layout.{at, fields, grantedCycles, placeOf, remaining}
+use Rattle.image.specs.Layout.{at, fields, grantedCycles, moreFlags, placeOf, remaining, reuAt, sizeOf}
 use Rattle.image.specs.Radix.{joined}
-use Rattle.pane.specs.Rows.{grantedIn, remainingIn, wordAt}
+use Rattle.text.specs.Bytes.{byteAt}
+use Rattle.pane.specs.Rows.{grantedIn, remainingIn, sizeIn, wordAt}
 
 -- the number behind some fields is the first of the bytes behind them
 behind : (fs gs : List (ℕ × ℕ)) (s : List ℕ) → at (lifted (fs ++ gs) s) (length fs) ≡ at (lifted gs (drop (size fs) s)) 0
 behind [] gs s = refl
 behind (f ∷ fs) gs s =
     behind fs gs (drop (f .0) s) ∙ ap (λ (l : List ℕ). at (lifted gs l) 0) (drop-drop (size fs) (f .0) s)
+
+one : (s : List ℕ) → joined (radices 1) (take 1 s) ≡ byteAt s 0
+one [] = refl
+one (a ∷ s) = omega arith
 
 -- two bytes, and four, which are two numbers of two; bytes past the end are 0
 two : (s : List ℕ) → joined (radices 2) (take 2 s) ≡ wordAt s 0
@@ -31,6 +36,16 @@ four (a ∷ b ∷ c ∷ []) = omega arith
 four (a ∷ b ∷ c ∷ d ∷ s) = omega arith
 
 module _ (s : List ℕ) where
+  flags-there : byteAt (drop (placeOf moreFlags) s) 0 ≡ byteAt s (placeOf moreFlags)
+  flags-there = simp getD-drop refl
+
+  -- the size that is shown is the one that the opened controller has
+  pub opened-size : reuAt s .size ≡ sizeIn s
+  unfolding reuAt sizeIn
+  opened-size =
+      ap (λ (n : ℕ). sizeOf (n / 4))
+      (behind (take moreFlags fields) (drop moreFlags fields) s ∙ one (drop (placeOf moreFlags) s) ∙ flags-there)
+
   there : wordAt (drop (placeOf grantedCycles) s) 0 + 65536 * wordAt (drop (placeOf grantedCycles) s) 2
       ≡ wordAt s (placeOf grantedCycles) + 65536 * wordAt s (placeOf grantedCycles + 2)
   there = simp getD-drop refl

@@ -1,12 +1,12 @@
 -- Which images are refused is what opening them says: of one that is refused no row shows a byte, and every row of another shows what it holds.
-use mathlib.Core.Path.{_≡_}
+use mathlib.Core.Path.{_≡_, refl}
 use mathlib.Core.Bool.{Bool, true, false, cond, _&&_}
 use mathlib.Core.List.{List}
 use Prim.Native.Nat.{ℕ, _≤_, _<_}
 use native.Mathlib.Omega.{arith}
 use lib.Dec.{eqb}
 use lib.ListN.{length, replicate}
-use borrow.Author.Tests.{lt-ltb, le-ltb, ne-eqb}
+use borrow.Author.Tests.{eq-eqb, lt-ltb, le-ltb, ne-eqb}
 use Rattle.transfer.specs.Bytes.{bitOf}
 use Rattle.controller.specs.Calls.{dmaActiveCall}
 use Rattle.transfer.specs.Dma.{active}
@@ -40,7 +40,7 @@ module _ (i : List ℕ) (n : ℕ) where
 
     answer : reuDmaActive i ≡ bitOf (active (reuAt i .dma))
     unfolding look checked dmaActiveCall refusalOf code
-    answer = rw (opened-is i good, well) (omega arith)
+    answer = rw (opened-is i good, well, eq-eqb (reuAt i .size) (reuAt i .size) refl) (omega arith)
 
     pub accepted-row : rowOf i n ≡ heldRow i n
     unfolding rowOf

@@ -1,5 +1,5 @@
 -- The register pane, row by row: which bytes of an image each row shows, and how they are spelled.
-use Prim.Native.Nat.{ℕ, _+_, _%_}
+use Prim.Native.Nat.{ℕ, _+_, _/_, _%_}
 use mathlib.Core.Bool.{cond}
 use mathlib.Core.List.{List, [], _∷_}
 use lib.Dec.{eqb, ltb}
@@ -8,11 +8,11 @@ use Rattle.transfer.specs.Bytes.{long, word}
 use Rattle.transfer.specs.Constants.{status, command, c64Low, expLow, lengthLow, interruptMask, addressControl}
 use Rattle.controller.specs.Cycle.{mostGranted}
 use Rattle.image.specs.Fields.{lifted}
-use Rattle.image.specs.Layout.{at, fields, imageSize, placeOf, shadowC64, shadowExp, shadowLength, flags, moreFlags, delay, transfer, kind, phase, transferC64, transferExp, latch, options, grantedCycles, transferOf}
+use Rattle.image.specs.Layout.{at, fields, imageSize, placeOf, shadowC64, shadowExp, shadowLength, flags, moreFlags, delay, transfer, kind, phase, transferC64, transferExp, latch, options, grantedCycles, sizeOf, transferOf}
 use Rattle.reu.specs.Exports.{reuDebugRegister, reuDmaActive, reuRead}
 use Rattle.pane.specs.Answers.{accepted, refusedBy}
 use Rattle.text.specs.Bytes.{byteAt}
-use Rattle.text.specs.Shown.{_⊕_, ascii, bitsOf, decimalOf, hexOf}
+use Rattle.text.specs.Shown.{_⊕_, ascii, bitsOf, decimalOf, decimalUpTo, hexOf}
 
 -- ---- the numbers of two and three bytes that stand at a place
 
@@ -76,6 +76,15 @@ flagsRow i n =
     (cond (eqb n 15) ([] ⊕ bitsOf "swap rules   refresh=0 release=1" (byteAt i (placeOf moreFlags)))
     ([] ⊕ ascii "delay        " ⊕ hexOf 1 (byteAt i (placeOf delay)))))))
 
+-- ---- the size of the storage
+
+-- L4: "Byte 19 bits 2-3 hold 0 for 512 KiB, 1 for 256, 2 for 128"
+unfoldable pub sizeIn : List ℕ → ℕ
+sizeIn i = sizeOf (byteAt i (placeOf moreFlags) / 4)
+
+unfoldable pub storageRow : List ℕ → List ℕ
+storageRow i = [] ⊕ ascii "storage      " ⊕ decimalUpTo 20 (sizeIn i / 1024) ⊕ ascii " KiB"
+
 -- ---- the count of granted cycles
 
 -- the image's number, as opening it takes it from the list of fields
@@ -106,31 +115,32 @@ remainingIn i = transferOf (lifted fields i) .remaining
 unfoldable pub runningRow : List ℕ → ℕ → List ℕ
 runningRow i n =
     cond (eqb (byteAt i (placeOf transfer)) 0) []
-    (cond (eqb n 19)
+    (cond (eqb n 20)
     ([] ⊕ ascii "  at         c64 " ⊕ hexOf 4 (wordAt i (placeOf transferC64)) ⊕ ascii " exp " ⊕ hexOf 6 (longAt i (placeOf transferExp)) ⊕ ascii " left "
     ⊕ hexOf 5 (remainingIn i))
-    (cond (eqb n 20)
+    (cond (eqb n 21)
     ([] ⊕ ascii "  latch      " ⊕ hexOf 2 (byteAt i (placeOf latch)) ⊕ bitsOf " first=3 odd=4 tail=5" (byteAt i (placeOf options)))
-    (cond (eqb n 21) ([] ⊕ bitsOf "  options    fixc64=0 fixexp=1 load=2" (byteAt i (placeOf options))) [])))
+    (cond (eqb n 22) ([] ⊕ bitsOf "  options    fixc64=0 fixexp=1 load=2" (byteAt i (placeOf options))) [])))
 
 -- ---- all of them
 
 -- how many; the last is of refused images alone
 abbrev pub rowCount : ℕ
-rowCount = 23
+rowCount = 24
 
 -- what the controller holds
 unfoldable pub heldRow : List ℕ → ℕ → List ℕ
 heldRow i n =
     cond (ltb n 11) (registerRow i n)
     (cond (ltb n 17) (flagsRow i n)
-    (cond (eqb n 17) (grantedRow i)
-    (cond (eqb n 18) (transferRow i) (runningRow i n))))
+    (cond (eqb n 17) (storageRow i)
+    (cond (eqb n 18) (grantedRow i)
+    (cond (eqb n 19) (transferRow i) (runningRow i n)))))
 
 -- of a refused image one row says so, which an accepted one has not; no bytes in the others
 unfoldable pub refusedRow : ℕ → ℕ → List ℕ
 refusedRow answer n =
-    cond (eqb n 22) ([] ⊕ ascii "image        " ⊕ refusedBy answer ⊕ ascii ": no controller") []
+    cond (eqb n 23) ([] ⊕ ascii "image        " ⊕ refusedBy answer ⊕ ascii ": no controller") []
 
 -- every call refuses an image alike: one is asked
 unfoldable pub rowOf : List ℕ → ℕ → List ℕ

@@ -8,14 +8,14 @@ use text::bytes::byte;
 use text::line::Line;
 ghost use mathlib.Core.Path.{_≡_};
 ghost use mathlib.Core.List.{[]};
-ghost use Prim.Native.Nat.{_%_, _<_, _≤_};
+ghost use Prim.Native.Nat.{_%_, _<_, _≤_, min};
 ghost use lib.ListN.{length};
 ghost use Rattle.image.specs.Layout.{imageSize, placeOf, transferExp};
-ghost use Rattle.pane.specs.Rows.{copyOf, flagsRow, grantedIn, grantedRow, heldRow, longAt, reads, refusedRow, remainingIn, registerName, registerRow, rowOf, runningRow, transferRow, typeName, wordAt};
+ghost use Rattle.pane.specs.Rows.{copyOf, flagsRow, grantedIn, grantedRow, heldRow, longAt, reads, refusedRow, remainingIn, registerName, registerRow, rowOf, runningRow, sizeIn, storageRow, transferRow, typeName, wordAt};
 ghost use Rattle.pane.specs.Rows.{held as Rows·held, spelled as Rows·spelled};
 ghost use Rattle.text.specs.Shown.{_⊕_, ascii, bitsOf, hexOf, textOf};
 
-pub const ROWS: usize = 23;
+pub const ROWS: usize = 24;
 // The registers that a row spells out, the low byte of a pair.
 const STATUS: usize = layout::REGISTERS;
 
@@ -190,6 +190,41 @@ fn flags_row(image: &[u8], row: usize) -> Line
     }
 }
 
+// ---- the size of the storage
+
+// By the code that stands above the two bits of the swap rules.
+pub fn size_in(image: &[u8]) -> u32
+    ensures { λ r. ⌜ r ≡ sizeIn (now (image .entry)) ⌝ }
+    ensures { λ r. ⌜ 0 < r ⌝ }
+    ensures { λ r. ⌜ r ≤ 524288 ⌝ }
+{
+    let code = byte(image, layout::MORE_FLAGS) / 4;
+    match code {
+        0 => 524288,
+        1 => 262144,
+        _ => 131072,
+    }
+}
+
+// How many of `most` bytes are lent to a call: the storage that the image sets is the first of them.
+pub fn lent(image: &[u8], most: usize) -> usize
+    ensures { λ r. ⌜ r ≡ min (sizeIn (now (image .entry))) most ⌝ }
+    ensures { λ r. ⌜ r ≤ most ⌝ }
+{
+    let size = size_in(image) as usize;
+    if size < most { size } else { most }
+}
+
+fn storage_row(image: &[u8]) -> Line
+    ensures { λ r. ⌜ textOf r ≡ storageRow (now (image .entry)) ⌝ }
+{
+    let size = size_in(image) / 1024;
+    Line::new()
+        .text(b"storage      ")
+        .digits(size as u64)
+        .text(b" KiB")
+}
+
 // ---- the count of granted cycles
 
 // Four bytes, low byte first.
@@ -258,15 +293,15 @@ fn running_row(image: &[u8], row: usize) -> Line
         return line;
     }
     match row {
-        19 => place_row(
+        20 => place_row(
             word(image, layout::TRANSFER_C64),
             long(image, layout::TRANSFER_EXPANSION),
             remaining(image),
         ),
-        20 => line.text(b"  latch      ")
+        21 => line.text(b"  latch      ")
             .hex2(byte(image, layout::LATCH))
             .bits(b" first=3 odd=4 tail=5", byte(image, layout::OPTIONS)),
-        21 => line.bits(
+        22 => line.bits(
             b"  options    fixc64=0 fixexp=1 load=2",
             byte(image, layout::OPTIONS),
         ),
@@ -276,7 +311,7 @@ fn running_row(image: &[u8], row: usize) -> Line
 
 // ---- any of them
 
-// What the controller holds; rows 19 on are empty where no command runs.
+// What the controller holds; rows 20 on are empty where no command runs.
 fn held_row(image: &[u8], row: usize) -> Line
     ensures { λ r. ⌜ textOf r ≡ heldRow (now (image .entry)) row ⌝ }
 {
@@ -287,9 +322,12 @@ fn held_row(image: &[u8], row: usize) -> Line
         return flags_row(image, row);
     }
     if row == 17 {
-        return granted_row(image);
+        return storage_row(image);
     }
     if row == 18 {
+        return granted_row(image);
+    }
+    if row == 19 {
         return transfer_row(image);
     }
     running_row(image, row)
@@ -300,7 +338,7 @@ fn refused_row(answer: u32, row: usize) -> Line
     ensures { λ r. ⌜ textOf r ≡ refusedRow answer row ⌝ }
 {
     let line = Line::new();
-    if row == 22 {
+    if row == 23 {
         return refusal(line.text(b"image        "), answer).text(b": no controller");
     }
     line

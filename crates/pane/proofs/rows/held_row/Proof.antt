@@ -18,7 +18,7 @@ unfolding heldRow
 returns-3 c =
     let its-if1 = c .before .before .before .if1 in
     rw (le-ltb _ _ (its-if1 .left), le-ltb _ _ (c .before .before .if2 .left), eq-eqb _ _ (c .before .if3 .taken))
-    (c .granted-row .ensures)
+    (c .storage-row .ensures)
 
 returns-4 : tie.Need-returns-4
 unfolding heldRow
@@ -30,17 +30,31 @@ returns-4 c =
       ne-eqb _ _ (c .before .before .if3 .left),
       eq-eqb _ _ (c .before .if4 .taken),
     )
-    (c .transfer-row .ensures)
+    (c .granted-row .ensures)
 
 returns-5 : tie.Need-returns-5
 unfolding heldRow
 returns-5 c =
-    let its-if2 = c .before .before .before in
+    let its-if3 = c .before .before .before in
     rw (
-      le-ltb _ _ (its-if2 .before .if1 .left),
-      le-ltb _ _ (its-if2 .if2 .left),
-      ne-eqb _ _ (c .before .before .if3 .left),
-      ne-eqb _ _ (c .before .if4 .left),
+      le-ltb _ _ (its-if3 .before .before .if1 .left),
+      le-ltb _ _ (its-if3 .before .if2 .left),
+      ne-eqb _ _ (its-if3 .if3 .left),
+      ne-eqb _ _ (c .before .before .if4 .left),
+      eq-eqb _ _ (c .before .if5 .taken),
+    )
+    (c .transfer-row .ensures)
+
+returns-6 : tie.Need-returns-6
+unfolding heldRow
+returns-6 c =
+    let its-if3 = c .before .before .before in
+    rw (
+      le-ltb _ _ (its-if3 .before .before .if1 .left),
+      le-ltb _ _ (its-if3 .before .if2 .left),
+      ne-eqb _ _ (its-if3 .if3 .left),
+      ne-eqb _ _ (c .before .before .if4 .left),
+      ne-eqb _ _ (c .before .if5 .left),
     )
     (c .running-row .ensures)
 
@@ -48,4 +62,5 @@ pub held-row-spec : {M : Type 1} → statement M
 held-row-spec =
     tie.close
     (tie.spec (λ c. search needs) (λ c κs. search needs) returns (λ c κs. search needs) returns-2
-    (λ c κs. search needs) returns-3 (λ c κs. search needs) returns-4 (λ c κs. search needs) returns-5)
+    (λ c κs. search needs) returns-3 (λ c κs. search needs) returns-4 (λ c κs. search needs) returns-5
+    (λ c κs. search needs) returns-6)
