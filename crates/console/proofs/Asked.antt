@@ -20,25 +20,25 @@ use Rattle.controller.specs.TickDma.{Ticked, quietStep}
 use Rattle.controller.specs.Refusals.{checked, refusalOf}
 
 -- what is written twice is written once, and the length stays
-put-again : (p : Put) (s : List ℕ) → putStorage p (putStorage p s) ≡ putStorage p s
-put-again Nothing s = refl
-put-again (Bus a v) s = refl
-put-again (Storage a v) s = set-set s _ _ _
+put-again : (n : ℕ) (p : Put) (s : List ℕ) → putStorage n p (putStorage n p s) ≡ putStorage n p s
+put-again n Nothing s = refl
+put-again n (Bus a v) s = refl
+put-again n (Storage a v) s = set-set s _ _ _
 
-put-long : (p : Put) (s : List ℕ) → length (putStorage p s) ≡ length s
-put-long Nothing s = refl
-put-long (Bus a v) s = refl
-put-long (Storage a v) s = length-set s _ _
+put-long : (n : ℕ) (p : Put) (s : List ℕ) → length (putStorage n p s) ≡ length s
+put-long n Nothing s = refl
+put-long n (Bus a v) s = refl
+put-long n (Storage a v) s = length-set s _ _
 
 module _ (u : Reu) (s : List ℕ) (high phi1 : Bool) (number : ℕ) where
   asked-again : busAction u (busAction u s high phi1 number .1) high phi1 number ≡ busAction u s high phi1 number
   unfolding busAction
   asked-again =
-      ap (λ (t : List ℕ). (nextAction u high phi1 number, t)) (put-again (nextAction u high phi1 number .put) s)
+      ap (λ (t : List ℕ). (nextAction u high phi1 number, t)) (put-again (u .size) (nextAction u high phi1 number .put) s)
 
   asked-long : length (busAction u s high phi1 number .1) ≡ length s
   unfolding busAction
-  asked-long = put-long (nextAction u high phi1 number .put) s
+  asked-long = put-long (u .size) (nextAction u high phi1 number .put) s
 
 -- ---- asked before a cycle, on a controller that may be refused, and then nothing is written
 

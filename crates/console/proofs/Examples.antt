@@ -1,4 +1,4 @@
--- Worked examples of the definitions, with what was expected written by hand: no command, what is said of a refused image, and the marks.
+-- Worked examples of the definitions, with what was expected written by hand: no command, what is said of a refused image and of a size, and the marks.
 use mathlib.Core.Path.{_≡_, refl}
 use mathlib.Core.Bool.{true, false}
 use mathlib.Core.List.{List, [], _∷_, _++_}
@@ -13,7 +13,7 @@ use Rattle.text.specs.Shown.{_⊕_, ascii, decimalUpTo, fillFrom, hexOf}
 use Rattle.text.specs.Typed.{digitsFrom, numberOf, same, wordFrom, wordsFrom}
 use Rattle.lines.specs.declared.clock.Clock.{Clock}
 use Rattle.console.specs.declared.step.Cycle.{Cycle}
-use Rattle.console.specs.Apply.{applyOf, controlOf}
+use Rattle.console.specs.Apply.{applyOf, controlOf, sizeText, sized}
 use Rattle.lines.specs.Clock.{timeOf}
 use Rattle.console.specs.Registers.{readText, warningOf}
 use Rattle.console.specs.Step.{accessText, advanced, baText, bytesThere, counted, cycleLine, goOf, marksOf, passedText, runLine, runText, started}
@@ -51,6 +51,20 @@ refused-read = refl
 refused-write : warningOf bad ≡ ascii "(nothing is written: the image is refused by 2)"
 unfolding bad warningOf look checked openImage imageOk bytesOk decimalUpTo _⊕_
 refused-write = refl
+
+-- ---- a size: nothing is said of one that was set; 6 says why; 2 is no matter of the storage
+
+size-set : sizeText 0 ≡ []
+unfolding sizeText
+size-set = refl
+
+size-attached : sizeText 100663296 ≡ ascii "the size is refused by 6: storage is attached (new makes a machine without)"
+unfolding sizeText decimalUpTo _⊕_
+size-attached = refl
+
+size-of-none : sizeText (sized (ascii "size 128") bad .0) ≡ ascii "the size is refused by 2"
+unfolding bad sizeText change checked openImage imageOk bytesOk decimalUpTo _⊕_
+size-of-none = refl
 
 -- ---- the marks: a cycle that was granted answers 1, plus 2 for the C64's and plus 4 for the expansion's
 

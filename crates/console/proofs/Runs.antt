@@ -15,7 +15,7 @@ use Rattle.reu.proofs.Families.{look-refused}
 use Rattle.reu.specs.Exports.{refusal, refusalUnit, reuBusAction, reuC64Access, reuCycle, reuDmaActive}
 use Rattle.text.proofs.Cuts.{then}
 use Rattle.pane.specs.Answers.{accepted}
-use Rattle.pane.specs.Rows.{copyOf, longAt}
+use Rattle.pane.specs.Rows.{copyOf, longAt, sizeIn}
 use Rattle.text.specs.Shown.{_⊕_, decimalOf}
 use Rattle.transfer.specs.Bytes.{bit, bitOf}
 use Rattle.transfer.specs.Dma.{neither}
@@ -34,17 +34,18 @@ module _ (inputs number : ℕ) (i s : List ℕ) where
       → (x, s) ≡ cond (eqb lent busSize) (askedOf inputs number i s) (refusedCycle 0, s)
   not-asked {lent} h e = rw (ne-eqb lent busSize h) (λ j. (e j, s))
 
-  pub asked : {lent : ℕ} {copy j t : List ℕ} {grant access at : ℕ} → lent ≡ busSize → copy ≡ copyOf i
+  pub asked : {lent : ℕ} {copy j t : List ℕ} {grant access at size : ℕ} → lent ≡ busSize → copy ≡ copyOf i
       → (grant, j, t) ≡ reuBusAction copy s (inputs / 4 % 2) (inputs / 2 % 2) number → access ≡ reuC64Access j → at ≡ longAt j (placeOf transferExp)
-      → (record { grant = grant; access = access % refusalUnit; offset = at % 524288; passed = neither }, t)
+      → size ≡ sizeIn j
+      → (record { grant = grant; access = access % refusalUnit; offset = at % size; passed = neither }, t)
       ≡ cond (eqb lent busSize) (askedOf inputs number i s) (refusedCycle 0, s)
   unfolding askedOf
-  asked {lent} {t = t} {grant = grant} h c g a o =
+  asked {lent} {t = t} {grant = grant} h c g a o z =
       let same = g ∙ (λ x. reuBusAction (c x) s (sym (bit-digit inputs 2) x) (sym (bit-digit inputs 1) x) number) in
       rw (eq-eqb lent busSize h)
-      ((λ x. (record { grant = grant; access = a x % refusalUnit; offset = o x % 524288; passed = neither }, t))
+      ((λ x. (record { grant = grant; access = a x % refusalUnit; offset = o x % z x; passed = neither }, t))
       ∙ ap
-      (λ (y : ℕ × List ℕ × List ℕ). (record { grant = y .0; access = reuC64Access (y .1) % refusalUnit; offset = longAt (y .1) (placeOf transferExp) % 524288; passed = neither }, y .2))
+      (λ (y : ℕ × List ℕ × List ℕ). (record { grant = y .0; access = reuC64Access (y .1) % refusalUnit; offset = longAt (y .1) (placeOf transferExp) % sizeIn (y .1); passed = neither }, y .2))
       same)
 
 -- a cycle, from what was asked before it and what it answered and left

@@ -1,5 +1,5 @@
 -- Turns: what the calls answered and left put together.
-use mathlib.Core.Path.{_≡_}
+use mathlib.Core.Path.{_≡_, _∙_, ap}
 use mathlib.Core.Bool.{Bool, true, false}
 use mathlib.Core.List.{List, []}
 use Prim.Native.Nat.{ℕ, _-_, _≤_, _<_}
@@ -8,7 +8,12 @@ use Rattle.text.specs.Typed.{wordOf}
 use Rattle.console.specs.declared.session.Session.{Session}
 use Rattle.console.specs.Apply.{Outcome, applyOf, stepOutcome}
 use Rattle.lines.specs.Commands.{lineFault}
-use Rattle.console.specs.Session.{Turn, cycleTurn, droppedTurn, endedAfter, heldOf, isDropped, obeyTurn, stepsOf, turnOf}
+use Rattle.pane.specs.Rows.{sizeIn}
+use Rattle.console.specs.Session.{Turn, cycleTurn, droppedTurn, endedAfter, faultIn, heldOf, isDropped, obeyTurn, stepsOf, turnOf}
+
+-- what is wrong with a line, where the storage's last offset is that of the image's size
+pub at-last-offset : (t i : List ℕ) {fault : List ℕ} {size : ℕ} → fault ≡ lineFault t (size - 1) → size ≡ sizeIn i → fault ≡ faultIn i t
+at-last-offset t i p q = p ∙ ap (λ (n : ℕ). lineFault t (n - 1)) q
 
 module _ (z : Session) (i m s : List ℕ) where
   -- a cycle
@@ -27,7 +32,7 @@ module _ (z : Session) (i m s : List ℕ) where
 
     -- a line that is forgotten
     pub no-line :
-        {y : Session} {said line : List ℕ} → y ≡ z → said ≡ lineFault t → line ≡ [] →
+        {y : Session} {said line : List ℕ} → y ≡ z → said ≡ faultIn i t → line ≡ [] →
         _≡_ {A = Turn} (heldOf y i m s, said, line) (droppedTurn t z i m s)
     no-line p q r = λ j. (heldOf (p j) i m s, q j, r j)
 
@@ -36,7 +41,7 @@ module _ (z : Session) (i m s : List ℕ) where
     unfolding turnOf
     steps h p = rw (lt-ltb _ _ h) p
 
-    module _ (h : z .left ≤ 0) {b : Bool} (e : b ≡ isDropped t (lineFault t)) where
+    module _ (h : z .left ≤ 0) {b : Bool} (e : b ≡ isDropped t (faultIn i t)) where
       pub forgets : {x : Turn} → b ≡ true → x ≡ droppedTurn t z i m s → x ≡ turnOf t z i m s
       unfolding turnOf
       forgets q p = rw (le-ltb _ _ h, ← e, q) p

@@ -5,13 +5,14 @@ use mathlib.Core.Bool.{cond}
 use mathlib.Core.List.{List, [], _∷_}
 use lib.Dec.{eqb}
 use Rattle.transfer.specs.Memory.{zeros}
-use Rattle.reu.specs.Exports.{reuDmaActive, reuNew, reuReset, reuSetEnabled, reuTriggerFf00}
+use Rattle.reu.specs.Exports.{refusal, reuDmaActive, reuNew, reuReset, reuSetEnabled, reuSetSize, reuTriggerFf00}
+use Rattle.pane.specs.Answers.{accepted, refusedBy}
 use Rattle.text.specs.Shown.{_⊕_, ascii, decimalOf, textOf}
 use Rattle.text.specs.Typed.{numberOf, valueOf, wordOf, wordsOf}
 use Rattle.lines.specs.declared.clock.Clock.{Clock}
 use Rattle.console.specs.declared.step.Cycle.{Cycle}
 use Rattle.lines.specs.Clock.{Time, inputsOf, letterOf, timeOf}
-use Rattle.lines.specs.Commands.{is, oneOf}
+use Rattle.lines.specs.Commands.{is, oneOf, sizeTyped}
 use Rattle.lines.specs.Memory.{address, stored}
 use Rattle.console.specs.Registers.{afterRead, readText, warningOf, written}
 use Rattle.console.specs.Step.{Running, cycleLine, cycleOf, goOf, runLine, started, timeAfter}
@@ -36,6 +37,17 @@ cycleTime t c = (countOr t (c .cycle), textOf (c .ba), c .at)
 abbrev pub cycleText : List ℕ → Clock → List ℕ
 cycleText t c = cond (eqb (wordsOf t) 2) [] ([] ⊕ ascii "the next cycle is " ⊕ decimalOf (c .cycle))
 
+-- `size`: what the call answers, and leaves of the image
+abbrev pub sized : List ℕ → List ℕ → (ℕ × List ℕ)
+sized t i = reuSetSize i (sizeTyped (wordOf 1 t))
+
+-- nothing is said of a size that was set; L4: "6 setting one when attached"
+unfoldable pub sizeText : ℕ → List ℕ
+sizeText answer =
+    let t : List ℕ = [] ⊕ ascii "the size is " ⊕ refusedBy answer in
+    cond (accepted answer) []
+    (cond (eqb answer (refusal 6)) (t ⊕ ascii ": storage is attached (new makes a machine without)") t)
+
 -- `z`: one cycle
 unfoldable pub stepOutcome : Clock → List ℕ → List ℕ → List ℕ → Outcome
 stepOutcome c i m s =
@@ -59,7 +71,8 @@ controlOf w t c i =
     (cond (oneOf ("ff00" ∷ "FF00" ∷ []) w) (timeOf c, [], reuTriggerFf00 i .1)
     (cond (is "reset" w) (timeOf c, [], reuReset i 0 .1)
     (cond (is "ba" w) ((c .cycle, wordOf 1 t, 0), [], i)
-    (cond (is "cycle" w) (cycleTime t c, cycleText t c, i) (timeOf c, [], i))))))
+    (cond (is "cycle" w) (cycleTime t c, cycleText t c, i)
+    (cond (is "size" w) (timeOf c, sizeText (sized t i .0), sized t i .1) (timeOf c, [], i)))))))
 
 unfoldable pub applyOf : List ℕ → List ℕ → Clock → List ℕ → List ℕ → List ℕ → Outcome
 applyOf w t c i m s =

@@ -10,6 +10,7 @@ use Rattle.console.specs.declared.session.Session.{Session}
 use Rattle.console.specs.Apply.{Outcome, applyOf, countOr, stepOutcome}
 use Rattle.lines.specs.Clock.{Time, timeOf}
 use Rattle.lines.specs.Commands.{is, isComment, lineFault}
+use Rattle.pane.specs.Rows.{sizeIn}
 
 -- ---- the machine
 
@@ -44,12 +45,16 @@ cycleTurn z i m s =
     let x : Outcome = stepOutcome (z .clock) i m s in
     (((x .0, x .2, x .3, x .4), z .left - 1, z .ended), x .1, [])
 
+-- what is wrong with a line: the last offset of the storage goes by the size that the image sets
+abbrev pub faultIn : List ℕ → List ℕ → List ℕ
+faultIn i t = lineFault t (sizeIn i - 1)
+
 -- a line is forgotten where something is wrong with it, and where it is a comment
 abbrev pub isDropped : List ℕ → List ℕ → Bool
 isDropped t fault = cond (eqb (length fault) 0) (isComment t) true
 
 abbrev pub droppedTurn : List ℕ → Session → List ℕ → List ℕ → List ℕ → Turn
-droppedTurn t z i m s = (heldOf z i m s, lineFault t, [])
+droppedTurn t z i m s = (heldOf z i m s, faultIn i t, [])
 
 -- `z` says how many cycles are to be stepped, 1 where it has no number
 unfoldable pub stepsOf : List ℕ → ℕ
@@ -69,4 +74,4 @@ obeyTurn t z i m s =
 unfoldable pub turnOf : List ℕ → Session → List ℕ → List ℕ → List ℕ → Turn
 turnOf t z i m s =
     cond (ltb 0 (z .left)) (cycleTurn z i m s)
-    (cond (isDropped t (lineFault t)) (droppedTurn t z i m s) (obeyTurn t z i m s))
+    (cond (isDropped t (faultIn i t)) (droppedTurn t z i m s) (obeyTurn t z i m s))

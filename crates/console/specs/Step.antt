@@ -10,7 +10,7 @@ use Rattle.transfer.specs.declared.dma.Passed.{Passed}
 use Rattle.image.specs.Layout.{placeOf, transferExp}
 use Rattle.reu.specs.Exports.{refusalUnit, reuBusAction, reuC64Access, reuCycle, reuDmaActive}
 use Rattle.pane.specs.Answers.{accepted, refusedBy}
-use Rattle.pane.specs.Rows.{copyOf, longAt}
+use Rattle.pane.specs.Rows.{copyOf, longAt, sizeIn}
 use Rattle.text.specs.Bytes.{byteAt}
 use Rattle.text.specs.Shown.{_⊕_, ascii, decimalOf, hexOf}
 use Rattle.lines.specs.declared.clock.Clock.{Clock}
@@ -25,11 +25,12 @@ abbrev pub refusedCycle : ℕ → Cycle
 refusedCycle answer = record { grant = answer; access = 0; offset = 0; passed = neither }
 
 -- "it asks `bus_action`": asked before it of a copy of the image, with the access that is then ready (a refusal has the value 0,
--- which is none) and the storage's offset by the expansion address in it, and marks nothing yet; and the storage after that
+-- which is none) and the storage's offset by the expansion address and the size in it (L4: "folding keeps that many low bits"), and marks
+-- nothing yet; and the storage after that
 unfoldable pub askedOf : ℕ → ℕ → List ℕ → List ℕ → (Cycle × List ℕ)
 askedOf inputs number i s =
     let g : (ℕ × List ℕ × List ℕ) = reuBusAction (copyOf i) s (bitOf (bit inputs 2)) (bitOf (bit inputs 1)) number in
-    (record { grant = g .0; access = reuC64Access (g .1) % refusalUnit; offset = longAt (g .1) (placeOf transferExp) % 524288; passed = neither }, g .2)
+    (record { grant = g .0; access = reuC64Access (g .1) % refusalUnit; offset = longAt (g .1) (placeOf transferExp) % sizeIn (g .1); passed = neither }, g .2)
 
 -- which address ran over its top, by the cycle's answer: "plus 2 and plus 4"
 abbrev pub marksOf : ℕ → Passed

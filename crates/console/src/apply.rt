@@ -7,9 +7,13 @@ use crate::step::run_cycle;
 use crate::step::run_line;
 use lines::clock::Clock;
 use lines::commands::place;
+use lines::commands::size_typed;
 use lines::keys;
 use lines::memory::address_of;
 use lines::memory::store;
+use pane::answers::REFUSAL_UNIT;
+use pane::answers::is_accepted;
+use pane::answers::refusal;
 use text::faults::value;
 use text::line::Line;
 ghost use mathlib.Core.Path.{_≡_};
@@ -18,10 +22,13 @@ ghost use Rattle.transfer.specs.Memory.{zeros};
 ghost use Rattle.text.specs.Shown.{textOf};
 ghost use Rattle.text.specs.Typed.{wordOf};
 ghost use Rattle.reu.specs.Exports.{reuNew, reuReset, reuSetEnabled, reuTriggerFf00};
-ghost use Rattle.console.specs.Apply.{applyOf, busHint, controlOf, countOr, cycleTime, cycleText, goOutcome, stepOutcome};
+ghost use Rattle.console.specs.Apply.{applyOf, busHint, controlOf, countOr, cycleTime, cycleText, goOutcome, sizeText, sized, stepOutcome};
 ghost use Rattle.lines.specs.Clock.{timeOf};
 ghost use Rattle.lines.specs.Memory.{stored};
 ghost use Rattle.console.specs.Registers.{afterRead, readText, warningOf, written};
+
+// A size that is set where storage is attached is refused by this number.
+const ATTACHED: u32 = 6;
 
 // A swap of 65,536 bytes takes 131,072 cycles, and BA may hold it as long again.
 const LIMIT: u32 = 0x40000;
@@ -78,7 +85,7 @@ fn poke_storage(line: Line, clock: Clock, storage: &mut [u8]) -> Applied
     }
 }
 
-// ---- the controller: w, rd, ff00, enable, disable, reset, new
+// ---- the controller: w, rd, ff00, enable, disable, reset, size, new
 
 fn write(line: Line, clock: Clock, image: &mut [u8]) -> Applied
     ensures { λ r. ⌜ r .clock ≡ clock ⌝ }
@@ -135,6 +142,32 @@ fn reset(clock: Clock, image: &mut [u8]) -> Applied
     Applied {
         clock,
         said: Line::new(),
+    }
+}
+
+// What to say of a size, by what the call answered. Authors may not expect that a new machine is needed.
+fn size_text(answer: u32) -> Line
+    ensures { λ r. ⌜ textOf r ≡ sizeText answer ⌝ }
+{
+    if is_accepted(answer) {
+        return Line::new();
+    }
+    let line = refusal(Line::new().text(b"the size is "), answer);
+    if answer == ATTACHED * REFUSAL_UNIT {
+        return line.text(b": storage is attached (new makes a machine without)");
+    }
+    line
+}
+
+fn set_size(line: Line, clock: Clock, image: &mut [u8]) -> Applied
+    ensures { λ r. ⌜ r .clock ≡ clock ⌝ }
+    ensures { λ r. ⌜ textOf (r .said) ≡ sizeText (sized (textOf line) (now (image .entry)) .0) ⌝ }
+    ensures { λ r. ⌜ now (image .exit) ≡ sized (textOf line) (now (image .entry)) .1 ⌝ }
+{
+    let answer = reu::reu_set_size(image, size_typed(line.word(1)));
+    Applied {
+        clock,
+        said: size_text(answer),
     }
 }
 
@@ -247,6 +280,7 @@ fn control(line: Line, clock: Clock, image: &mut [u8]) -> Applied
         keys::RESET => reset(clock, image),
         keys::BA => set_ba(line, clock),
         keys::CYCLE => set_cycle(line, clock),
+        keys::SIZE => set_size(line, clock, image),
         _ => quiet(clock),
     }
 }

@@ -8,6 +8,7 @@ use lines::commands::is_comment;
 use lines::commands::line_fault;
 use lines::commands::place;
 use lines::keys;
+use pane::rows::size_in;
 use text::line::Line;
 ghost use mathlib.Core.Path.{_≡_};
 ghost use mathlib.Core.Bool.{false};
@@ -163,7 +164,7 @@ pub fn turn(
     if session.left > 0 {
         return cycle(session, image, bus, storage);
     }
-    let fault = line_fault(line);
+    let fault = line_fault(line, size_in(image) - 1);
     if is_dropped(line, fault) {
         return dropped(session, fault);
     }

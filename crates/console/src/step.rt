@@ -4,6 +4,7 @@ use pane::answers::REFUSAL_UNIT;
 use pane::answers::is_accepted;
 use pane::answers::refusal;
 use pane::rows::copied;
+use pane::rows::size_in;
 use pane::rows::transfer_expansion;
 use text::bytes::byte;
 use text::line::Line;
@@ -19,8 +20,6 @@ ghost use Rattle.console.specs.Step.{accessText, advanced, askedOf, baTe
 const TRANSFER: u32 = 2;
 
 const BUS_SIZE: usize = 65536;
-
-const STORAGE_SIZE: u32 = 524288;
 
 const NO_MARKS: Passed = Passed {
     c64: false,
@@ -60,7 +59,7 @@ fn ask(inputs: u8, number: u64, image: &[u8], lent: usize, storage: &mut [u8]) -
     let phi1 = (inputs / 2 % 2) as u32;
     let grant = reu::reu_bus_action(&mut copy, storage, high, phi1, number);
     let access = reu::reu_c64_access(&copy) % REFUSAL_UNIT;
-    let offset = transfer_expansion(&copy) % STORAGE_SIZE;
+    let offset = transfer_expansion(&copy) % size_in(&copy);
     Cycle {
         grant,
         access,

@@ -22,7 +22,7 @@ by k w =
 
 -- the command is known once the word's place is a name's
 known :
-    (k : tie.After-place) {n : ℕ} {o : Outcome} → k .place .result ≡ n → n < 22 → o ≡ by k (nameAt n) →
+    (k : tie.After-place) {n : ℕ} {o : Outcome} → k .place .result ≡ n → n < 23 → o ≡ by k (nameAt n) →
     o ≡ by k (wordOf 0 (textOf (k .before .before .before .before .args .line)))
 known k q h p = named _ (k .place .ensures) (by k) q h p
 

@@ -24,7 +24,7 @@ by k w =
 
 -- the command is known once the word's place is a name's
 known :
-    (k : tie.After-place) {n : ℕ} {o : Done} → k .place .result ≡ n → n < 22 → o ≡ by k (nameAt n) →
+    (k : tie.After-place) {n : ℕ} {o : Done} → k .place .result ≡ n → n < 23 → o ≡ by k (nameAt n) →
     o ≡ by k (wordOf 0 (textOf (k .before .before .args .line)))
 known k q h p = named _ (k .place .ensures) (by k) q h p
 
@@ -67,23 +67,30 @@ unfolding controlOf same
 returns-7 c = known (c .before .before) (c .before .match .keys7) (omega arith) (timed (c .set-cycle .ensures))
 
 returns-8 : tie.Need-returns-8
-unfolding controlOf
+unfolding controlOf same
 returns-8 c =
+    let its-match = c .before .before .before .before in
+    known (its-match .before) (its-match .match .keys8) (omega arith) (image (c .before .before .set-size .ensures))
+
+returns-9 : tie.Need-returns-9
+unfolding controlOf
+returns-9 c =
     let it = c .quiet .ensures in
     let e = c .before .before .place .ensures in
     let rest = c .before .match .rest in
     rw (
-      other _ e (ascii "w") refl (omega arith) (rest .0 .0 .0 .0 .0 .0 .1),
-      other _ e (ascii "rd") refl (omega arith) (rest .0 .0 .0 .0 .0 .1),
-      other _ e (ascii "ff00") refl (omega arith) (rest .0 .0 .0 .0 .1),
-      other _ e (ascii "FF00") refl (omega arith) (rest .0 .0 .0 .1),
-      other _ e (ascii "reset") refl (omega arith) (rest .0 .0 .1),
-      other _ e (ascii "ba") refl (omega arith) (rest .0 .1),
-      other _ e (ascii "cycle") refl (omega arith) (rest .1),
+      other _ e (ascii "w") refl (omega arith) (rest .0 .0 .0 .0 .0 .0 .0 .1),
+      other _ e (ascii "rd") refl (omega arith) (rest .0 .0 .0 .0 .0 .0 .1),
+      other _ e (ascii "ff00") refl (omega arith) (rest .0 .0 .0 .0 .0 .1),
+      other _ e (ascii "FF00") refl (omega arith) (rest .0 .0 .0 .0 .1),
+      other _ e (ascii "reset") refl (omega arith) (rest .0 .0 .0 .1),
+      other _ e (ascii "ba") refl (omega arith) (rest .0 .0 .1),
+      other _ e (ascii "cycle") refl (omega arith) (rest .0 .1),
+      other _ e (ascii "size") refl (omega arith) (rest .1),
     )
     (image (it .0, (it .1, refl)))
 
 pub control-spec : {M : Type 1} → statement M
 control-spec =
     tie.close
-    (tie.spec (λ c κs. search needs) (λ c κs. search needs) (λ c κs. search needs) (λ c κs. search needs) (λ c κs. search needs) (λ c κs. search needs) (λ c κs. search needs) (λ c κs. search needs) (λ c κs. search needs) (λ c. search needs) returns (λ c. search needs) returns-2 (λ c. search needs) returns-3 (λ c. search needs) returns-4 (λ c. search needs) returns-5 returns-6 returns-7 returns-8)
+    (tie.spec (λ c κs. search needs) (λ c κs. search needs) (λ c κs. search needs) (λ c κs. search needs) (λ c κs. search needs) (λ c κs. search needs) (λ c κs. search needs) (λ c κs. search needs) (λ c κs. search needs) (λ c κs. search needs) (λ c. search needs) returns (λ c. search needs) returns-2 (λ c. search needs) returns-3 (λ c. search needs) returns-4 (λ c. search needs) returns-5 returns-6 returns-7 (λ c. search needs) returns-8 returns-9)
