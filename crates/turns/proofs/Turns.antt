@@ -12,8 +12,8 @@ use Rattle.text.specs.Typed.{same, wordOf}
 use Rattle.console.specs.declared.session.Session.{Session}
 use Rattle.console.specs.Apply.{applyOf, controlOf, countOr, stepOutcome}
 use Rattle.lines.specs.Clock.{timeOf}
-use Rattle.lines.specs.Commands.{is, isComment, lineFault}
-use Rattle.console.specs.Session.{Held, Turn, endedAfter, heldOf, isDropped, machineOf, stepsOf, turnOf}
+use Rattle.lines.specs.Commands.{is, isComment}
+use Rattle.console.specs.Session.{Held, Turn, endedAfter, faultIn, heldOf, isDropped, machineOf, stepsOf, turnOf}
 use Rattle.lines.proofs.Names.{same-true}
 use Rattle.console.proofs.Turns.{forgets, obeys}
 use Rattle.turns.specs.Turns.{FaultsChangeNothing, StepsAreCycles, Turns, cycled, cycles}
@@ -26,7 +26,7 @@ some-bytes (b ∷ f) n = ne-eqb (length (b ∷ f)) 0 (λ e. omega arith)
 
 pub faults-change-nothing : FaultsChangeNothing
 faults-change-nothing t z i m s h n =
-    let e : true ≡ isDropped t (lineFault t) = rw (some-bytes (lineFault t) n) in
+    let e : true ≡ isDropped t (faultIn i t) = rw (some-bytes (faultIn i t) n) in
     sym (forgets z i m s t (omega arith) e refl refl)
 
 -- ---- z
@@ -51,10 +51,10 @@ module _ (t : List ℕ) (w : ascii "z" ≡ wordOf 0 t) where
   asked-for = subst (λ (v : List ℕ). cond (is "z" v) (countOr t 1) 0 ≡ countOr t 1) w refl
 
   -- so the turn only says how many cycles are to be stepped
-  begun : (z : Session) (i m s : List ℕ) → z .left ≡ 0 → lineFault t ≡ []
+  begun : (z : Session) (i m s : List ℕ) → z .left ≡ 0 → faultIn i t ≡ []
       → turnOf t z i m s .0 ≡ (machineOf z i m s, countOr t 1, z .ended)
   begun z i m s h f =
-      let obeyed : isDropped t (lineFault t) ≡ false =
+      let obeyed : isDropped t (faultIn i t) ≡ false =
       ap (λ (l : List ℕ). cond (eqb (length l) 0) (isComment t) true) f ∙ no-comment in
       let p = untouched z i m s in
       sym (ap (λ (x : Turn). x .0) (obeys z i m s t (omega arith) refl obeyed refl))
@@ -67,7 +67,7 @@ unfolding turnOf stepOutcome cycled
 stepping t z i m s h = rw (lt-ltb _ _ h)
 
 module _ (z : ℕ → Session) (i m s t : ℕ → List ℕ) (turns : Turns z i m s t) (h : z 0 .left ≡ 0)
-    (w : is "z" (wordOf 0 (t 0)) ≡ true) (f : lineFault (t 0) ≡ []) where
+    (w : is "z" (wordOf 0 (t 0)) ≡ true) (f : faultIn (i 0) (t 0) ≡ []) where
   abbrev n : ℕ
   n = countOr (t 0) 1
 

@@ -7,17 +7,17 @@ use mathlib.Core.List.{List, []}
 use Rattle.text.specs.Typed.{wordOf}
 use Rattle.console.specs.declared.session.Session.{Session}
 use Rattle.console.specs.Apply.{countOr}
-use Rattle.lines.specs.Commands.{is, lineFault}
+use Rattle.lines.specs.Commands.{is}
 use Rattle.console.specs.declared.step.Cycle.{Cycle}
 use Rattle.lines.specs.Clock.{inputsOf, letterAt}
-use Rattle.console.specs.Session.{Machine, heldOf, machineOf, turnOf}
+use Rattle.console.specs.Session.{Machine, faultIn, heldOf, machineOf, turnOf}
 use Rattle.console.specs.Step.{cycleOf, timeAfter}
 
 -- a line with a fault: what is held stays as it was, the fault is said, and no line is obeyed
 abbrev pub FaultsChangeNothing : Type 0
 FaultsChangeNothing =
-    (t : List ℕ) (z : Session) (i m s : List ℕ) → z .left ≡ 0 → (lineFault t ≡ [] → ⊥) →
-    turnOf t z i m s ≡ (heldOf z i m s, lineFault t, [])
+    (t : List ℕ) (z : Session) (i m s : List ℕ) → z .left ≡ 0 → (faultIn i t ≡ [] → ⊥) →
+    turnOf t z i m s ≡ (heldOf z i m s, faultIn i t, [])
 
 -- a bus cycle
 unfoldable pub cycled : Machine → Machine
@@ -39,6 +39,6 @@ pub record Turns (z : ℕ → Session) (i m s t : ℕ → List ℕ) : Type 0 whe
 abbrev pub StepsAreCycles : Type 0
 StepsAreCycles =
     (z : ℕ → Session) (i m s t : ℕ → List ℕ) → Turns z i m s t → z 0 .left ≡ 0 → is "z" (wordOf 0 (t 0)) ≡ true →
-    lineFault (t 0) ≡ [] → (k : ℕ) → k ≤ countOr (t 0) 1 →
+    faultIn (i 0) (t 0) ≡ [] → (k : ℕ) → k ≤ countOr (t 0) 1 →
     heldOf (z (suc k)) (i (suc k)) (m (suc k)) (s (suc k))
     ≡ (cycles k (machineOf (z 0) (i 0) (m 0) (s 0)), countOr (t 0) 1 - k, z 0 .ended)
