@@ -1,13 +1,18 @@
 -- Bytes of the bus and of the storage: `>`, `>s`, `m` and `ms`. t is the line that was typed.
 use Prim.Native.Nat.{ℕ, zero, suc, _+_, _-_, _%_, min}
 use mathlib.Core.Bool.{Bool, cond}
-use mathlib.Core.List.{List, [], _∷_}
+use mathlib.Core.List.{List, [], _∷_, _++_}
 use lib.Dec.{eqb, ltb, leb}
-use lib.ListN.{set}
+use lib.ListN.{drop, set, take}
+use Rattle.transfer.specs.Memory.{zeros}
 use Rattle.text.specs.Faults.{faultOf, faultsOf, orElse}
 use Rattle.text.specs.Bytes.{byteAt}
 use Rattle.text.specs.Shown.{_⊕_, ascii, hexOf, fillOf}
 use Rattle.text.specs.Typed.{numberOf, valueOf, wordOf, wordsOf}
+
+-- what lies from a place on is 0
+abbrev pub clearedFrom : ℕ → List ℕ → List ℕ
+clearedFrom n m = take n m ++ zeros (drop n m)
 
 -- the address is the second word, the bytes are the words after it
 abbrev pub address : List ℕ → ℕ

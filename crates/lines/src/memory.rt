@@ -13,7 +13,7 @@ ghost use lib.ListN.{length, replicate};
 ghost use lib.ListN.{set as ListN·set};
 ghost use Rattle.text.specs.Bytes.{byteAt};
 ghost use Rattle.text.specs.Shown.{_⊕_, ascii, hexOf, textOf};
-ghost use Rattle.lines.specs.Memory.{address, addressText, bytesLine, endOf, rangeFault, showFault, storeFault, stored, typed};
+ghost use Rattle.lines.specs.Memory.{address, addressText, bytesLine, clearedFrom, endOf, rangeFault, showFault, storeFault, stored, typed};
 
 // The last address of the bus.
 pub const LAST_ADDRESS: u32 = 65535;
@@ -36,6 +36,15 @@ pub fn empty_storage() -> [u8; 524288]
     ensures { λ r. ⌜ 524288 ≡ length r ⌝ }
 {
     [0; 524288]
+}
+
+// Bytes from a place on become 0: behind a storage that is smaller than what it lies in there are no others.
+pub fn clear_from(memory: &mut [u8], from: usize)
+    ensures { λ _. ⌜ now (memory .exit) ≡ clearedFrom from (now (memory .entry)) ⌝ }
+{
+    if from < memory.len() {
+        transfer::clear(&mut memory[from..]);
+    }
 }
 
 // ---- bytes and words
