@@ -4,7 +4,7 @@ use mathlib.Core.List.{List, [], _∷_, _++_}
 use Prim.Native.Nat.{ℕ, _+_, _%_, _≤_, _<_}
 use native.Mathlib.Numerals.{add-one}
 use native.Mathlib.Omega.{arith}
-use lib.ListN.{length, take, set, getD, replicate}
+use lib.ListN.{length, length-take, take, set, getD, replicate}
 use lib.Seq.{take-suc, take-suc-set, take-all}
 use borrow.Author.Tests.{eq-eqb, ne-eqb}
 use Rattle.image.specs.Layout.{imageSize}
@@ -32,3 +32,7 @@ other s h = rw (ne-eqb (length s) imageSize h)
 -- what a read of the copy answers
 pub read : (s copy left : List ℕ) (n r : ℕ) → (r, left) ≡ reuRead copy n → copy ≡ copyOf s → r % 256 ≡ reads s n
 read s copy left n r p q = ap (λ (x : ℕ × List ℕ). x .0 % 256) (p ∙ ap (λ (l : List ℕ). reuRead l n) q)
+
+-- as many bytes as are counted
+pub counted : (s : List ℕ) {n : ℕ} → n ≤ length s → n ≡ length (take n s)
+counted s {n} h = let k = length-take n s in omega (arith, k)

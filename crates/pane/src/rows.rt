@@ -9,7 +9,7 @@ use text::line::Line;
 ghost use mathlib.Core.Path.{_≡_};
 ghost use mathlib.Core.List.{[]};
 ghost use Prim.Native.Nat.{_%_, _<_, _≤_, min};
-ghost use lib.ListN.{length};
+ghost use lib.ListN.{length, take};
 ghost use Rattle.image.specs.Layout.{imageSize, placeOf, transferExp};
 ghost use Rattle.pane.specs.Rows.{copyOf, flagsRow, grantedIn, grantedRow, heldRow, longAt, reads, refusedRow, remainingIn, registerName, registerRow, rowOf, runningRow, sizeIn, storageRow, transferRow, typeName, wordAt};
 ghost use Rattle.pane.specs.Rows.{held as Rows·held, spelled as Rows·spelled};
@@ -206,12 +206,15 @@ pub fn size_in(image: &[u8]) -> u32
     }
 }
 
-// How many of `most` bytes are lent to a call: the storage that the image sets is the first of them.
-pub fn lent(image: &[u8], most: usize) -> usize
-    ensures { λ r. ⌜ r ≡ min (sizeIn (now (image .entry))) most ⌝ }
-    ensures { λ r. ⌜ r ≤ most ⌝ }
+// How many of some bytes are the storage that the image sets: the first of them, and never more than there are. The last two facts are
+// those that `&bytes[..n]` asks.
+pub fn lent(image: &[u8], bytes: &[u8]) -> usize
+    ensures { λ r. ⌜ r ≡ min (sizeIn (now (image .entry))) (length (now (bytes .entry))) ⌝ }
+    ensures { λ r. ⌜ r ≤ length (now (bytes .entry)) ⌝ }
+    ensures { λ r. ⌜ r ≡ length (take r (now (bytes .entry))) ⌝ }
 {
     let size = size_in(image) as usize;
+    let most = bytes.len();
     if size < most { size } else { most }
 }
 
