@@ -7,6 +7,7 @@ use lines::files::length_fault;
 use lines::files::part_name;
 use lines::memory::empty_bus;
 use lines::memory::empty_storage;
+use pane::rows::lent;
 use text::line::Line;
 use text::line::fill;
 use text::line::first;
@@ -36,10 +37,12 @@ fn save_part(so_far: bool, name: Line, part: u8, bytes: &[u8]) -> bool {
     written
 }
 
+// The storage is the first of the bytes, as many as the image sets.
 pub(crate) fn save(name: Line, image: &[u8], bus: &[u8], storage: &[u8]) {
+    let size = lent(image, storage);
     let one = save_part(true, name, 0, image);
     let two = save_part(one, name, 1, bus);
-    if save_part(two, name, 2, storage) {
+    if save_part(two, name, 2, &storage[..size]) {
         say(fill(b"saved %, %.bus and %.storage", name));
     }
 }
@@ -100,7 +103,7 @@ fn read_image(name: Line, image: &mut [u8]) -> Line {
     )
 }
 
-// All three parts, into bytes that are not the machine's.
+// All three parts, into bytes that are not the machine's. The image says how long the storage is; what lies behind it stays as it is.
 fn read_machine(name: Line, image: &mut [u8], bus: &mut [u8], storage: &mut [u8]) -> Line {
     let found = read_image(name, image);
     if !found.is_empty() {
@@ -110,10 +113,11 @@ fn read_machine(name: Line, image: &mut [u8], bus: &mut [u8], storage: &mut [u8]
     if !also.is_empty() {
         return also;
     }
-    read_part(name, 2, storage)
+    let size = lent(image, storage);
+    read_part(name, 2, &mut storage[..size])
 }
 
-// The machine is changed once all three parts are there. Answers what to say.
+// The machine is changed once all three parts are there: behind the storage that was read there are zeros. Answers what to say.
 pub(crate) fn open_machine(
     name: Line,
     image: &mut [u8],

@@ -71,6 +71,7 @@ fn begin(image: &mut [u8], bus: &mut [u8], storage: &mut [u8]) {
     turns(fd, terminal, image, bus, storage);
 }
 
+// The bytes are as many as the largest storage has.
 fn main() {
     let mut image = [0u8; IMAGE_BYTES];
     let mut bus = empty_bus();

@@ -11,14 +11,17 @@ use crate::output::show_pane;
 use crate::output::tell;
 use console::session;
 use console::session::Session;
+use console::session::Turned;
 use lines::commands::is_change;
 use lines::commands::place;
 use lines::keys;
 use lines::memory::LAST_ADDRESS;
-use lines::memory::LAST_OFFSET;
+use lines::memory::clear_from;
 use lines::prompt::echoed;
 use lines::prompt::prompt;
 use pane::rows::copied;
+use pane::rows::lent;
+use pane::rows::size_in;
 use text::line::Line;
 use text::line::first;
 
@@ -57,16 +60,35 @@ fn listen(session: Session, fd: i32, echo: bool) -> Input {
     input
 }
 
+// A turn of the session. The storage that it is lent is the first of the bytes, as many as the image sets.
+fn take_turn(
+    session: Session,
+    line: Line,
+    image: &mut [u8],
+    bus: &mut [u8],
+    storage: &mut [u8],
+) -> Turned {
+    let size = lent(image, storage);
+    session::turn(session, line, image, bus, &mut storage[..size])
+}
+
+// After `size` there are zeros behind the storage, so that a larger one has no bytes of a machine before.
+fn clear_behind(image: &[u8], storage: &mut [u8]) {
+    let size = lent(image, storage);
+    clear_from(storage, size);
+}
+
 // The commands that only show, and those on files.
 fn perform(line: Line, colour: bool, image: &mut [u8], bus: &mut [u8], storage: &mut [u8]) {
     let place = place(line);
     match place {
         keys::R => show_pane(image),
         keys::M => show_bytes(line, bus, false, LAST_ADDRESS),
-        keys::MS => show_bytes(line, storage, true, LAST_OFFSET),
+        keys::MS => show_bytes(line, storage, true, size_in(image) - 1),
         keys::BESIDE => files::compare(line.word(1), image, colour),
         keys::SAVE => files::save(line.word(1), image, bus, storage),
         keys::OPEN => say(files::open_machine(line.word(1), image, bus, storage)),
+        keys::SIZE => clear_behind(image, storage),
         keys::HELP => help(),
         _ => {}
     }
@@ -86,7 +108,7 @@ pub(crate) fn turn(
         return session.end();
     }
     let before = copied(image);
-    let done = session::turn(session, input.line, image, bus, storage);
+    let done = take_turn(session, input.line, image, bus, storage);
     let line = done.line;
     say_any(done.said);
     perform(line, terminal.colour, image, bus, storage);
