@@ -1,11 +1,15 @@
 -- The numbers of the image's list, and the bytes that the rows read: the size, the count of granted cycles, and what remains of a transfer.
 use mathlib.Core.Path.{_≡_, refl, sym, _∙_, ap}
+use mathlib.Core.Bool.{Bool, true, false, cond}
 use mathlib.Core.List.{List, [], _∷_, _++_}
-use Prim.Native.Nat.{ℕ, _+_, _*_, _/_}
+use Prim.Native.Nat.{ℕ, _+_, _*_, _/_, _%_}
 use native.Mathlib.Omega.{arith}
+use lib.Dec.{eqb}
 use lib.ListN.{length, drop, take}
 use lib.Seq.{drop-drop, getD-drop}
 use Rattle.transfer.specs.Dma.{lengthOf}
+use Rattle.transfer.specs.Memory.{isSize, physicalOffset}
+use Rattle.transfer.proofs.Sizes.{size-128, size-256, size-512, size-lines}
 use Rattle.image.specs.Fields.{lifted, radices, size}
 use Rattle.image.specs.Layout.{at, fields, grantedCycles, moreFlags, placeOf, remaining, reuAt, sizeOf}
 use Rattle.image.specs.Radix.{joined}
@@ -45,6 +49,22 @@ module _ (s : List ℕ) where
   opened-size =
       ap (λ (n : ℕ). sizeOf (n / 4))
       (behind (take moreFlags fields) (drop moreFlags fields) s ∙ one (drop (placeOf moreFlags) s) ∙ flags-there)
+
+  -- it is one of the three, so that what an address leaves by it is the address's place in the storage
+  pub one-of-three : isSize (sizeIn s) ≡ true
+  unfolding sizeIn
+  one-of-three = go (eqb code 0) (eqb code 1)
+    where
+      code : ℕ
+      code = byteAt s (placeOf moreFlags) / 4
+
+      go : (x y : Bool) → isSize (cond x 524288 (cond y 262144 131072)) ≡ true
+      go true y = size-512
+      go false true = size-256
+      go false false = size-128
+
+  pub its-place : (a : ℕ) → a % sizeIn s ≡ physicalOffset (sizeIn s) record { 0 = a } .0
+  its-place a = ap (λ (n : ℕ). a % n) (sym (size-lines (sizeIn s) one-of-three .power))
 
   there : wordAt (drop (placeOf grantedCycles) s) 0 + 65536 * wordAt (drop (placeOf grantedCycles) s) 2
       ≡ wordAt s (placeOf grantedCycles) + 65536 * wordAt s (placeOf grantedCycles + 2)
