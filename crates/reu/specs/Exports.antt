@@ -61,7 +61,7 @@ reuNew i = cond (eqb (length i) imageSize) (0, packImage newReu) (refusal 1, i)
 abbrev pub reuReset : List ℕ → ℕ → (ℕ × List ℕ)
 reuReset i hard = change resetCall i
 
--- L4
+-- L4: "A size in bytes may be set before storage is attached"
 abbrev pub reuSetSize : List ℕ → ℕ → (ℕ × List ℕ)
 reuSetSize i size = change (λ u. setSizeCall u size) i
 
