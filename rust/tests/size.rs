@@ -364,15 +364,22 @@ fn counters_and_answers_are_those_of_512_kib() {
     }
 }
 
+/// A machine that begins to swap one byte, $11 on the bus with $22 at the storage's last place, and that place. The expansion
+/// address is at its top.
+fn swapping_the_last(paper: Paper) -> (Machine, usize) {
+    let mut machine = enabled(paper.size);
+    let last = paper.bytes - 1;
+    (machine.bus_mut()[0x1000], machine.storage_mut()[last]) = (0x11, 0x22);
+    address(&mut machine, 0x1000, 0xFF_FFFF, 1);
+    machine.write(0xDF01, SWAP | AT_ONCE);
+    (machine, last)
+}
+
 /// The first half of a cycle writes the storage too: a fall between the phases of a swap gives the byte back.
 #[test]
 fn the_halves_of_a_cycle_find_the_same_place() {
     for paper in PAPERS {
-        let mut machine = enabled(paper.size);
-        let last = paper.bytes - 1;
-        (machine.bus_mut()[0x1000], machine.storage_mut()[last]) = (0x11, 0x22);
-        address(&mut machine, 0x1000, 0xFF_FFFF, 1);
-        machine.write(0xDF01, SWAP | AT_ONCE);
+        let (mut machine, last) = swapping_the_last(paper);
         assert_eq!(machine.bus_action(true, true, 0), Grant::Transfer);
         assert!(machine.tick_dma(0, false).busy);
         assert_eq!((machine.bus()[0x1000], machine.storage()[last]), (0x11, 0x11));
@@ -386,11 +393,7 @@ fn the_halves_of_a_cycle_find_the_same_place() {
 #[test]
 fn a_late_fall_leaves_the_bus_byte_twice() {
     for paper in PAPERS {
-        let mut machine = enabled(paper.size);
-        let last = paper.bytes - 1;
-        (machine.bus_mut()[0x1000], machine.storage_mut()[last]) = (0x11, 0x22);
-        address(&mut machine, 0x1000, 0xFF_FFFF, 1);
-        machine.write(0xDF01, SWAP | AT_ONCE);
+        let (mut machine, last) = swapping_the_last(paper);
         assert!((10..=14).all(|number| machine.run_reu_cycle(number != 10, number, false, number != 11).busy));
         assert!(!machine.dma_active());
         assert_eq!((machine.bus()[0x1000], machine.storage()[last], machine.granted_cycles()), (0x11, 0x11, 4));
