@@ -25,16 +25,15 @@ use Rattle.transfer.specs.Memory.{lines, put_storage}
 use Rattle.controller.specs.Timing.{c64_access}
 use Rattle.transfer.specs.Timing.{action_for_cycle}
 use Rattle.transfer.specs.Dma.{moved, neither}
-use Rattle.regs.specs.Stores.{listed, made, no_stores}
 use Rattle.regs.specs.FinishDma.{irq_due, counters, finished_status, finished, autoloaded}
-use Rattle.controller.specs.FinishDma.{autoload_stores, publish_live_counters, finish_dma, update_irq, with_stores}
+use Rattle.controller.specs.FinishDma.{publish_live_counters, finish_dma, update_irq}
 use Rattle.controller.specs.BusAction.{bus_action, next_action, granted, decide, fall, plain, repeated}
-use Rattle.controller.specs.TickDma.{Ticked, ticked, tick_dma, tick_of, tick_running, tick_by_type, tick_swap, swap_read, swap_write, advance, shown_last}
+use Rattle.controller.specs.TickDma.{Ticked, ticked, tick_dma, tick_of, tick_running, tick_by_type, tick_swap, swap_read, swap_write, advance}
 use Rattle.controller.specs.Cycle.{run_reu_cycle, counted, cycle_by}
 
 -- whoever unfolds this unfolds all that a cycle of a swap computes
 cycle_computed : Unit {0}
-unfolding run_reu_cycle counted cycle_by bus_action next_action decide fall plain action_for_cycle c64_access repeated tick_dma tick_of tick_running tick_by_type tick_swap swap_read swap_write advance publish_live_counters with_stores
+unfolding run_reu_cycle counted cycle_by bus_action next_action decide fall plain action_for_cycle c64_access repeated tick_dma tick_of tick_running tick_by_type tick_swap swap_read swap_write advance publish_live_counters
 cycle_computed = tt
 
 -- u with the fields that choose what a cycle does replaced
@@ -191,13 +190,12 @@ pub record LastStep (u : Reu) (c l : ℕ) (m s : List ℕ) (t : Ticked) (a : Reu
   pub control : reg t.0.reu 10 ≡ reg u 10
   pub quiet : Quiet t.0.reu
 
--- the interrupt changes STATUS and the level alone
+-- the interrupt changes STATUS and the level alone; Autoload changes the counters alone
 irq_list : (l : List ℕ) (v : ℕ) (b : Bool) (i : ℕ) → i ≢ 0 → get_or (cond b (set l 0 v) l) i 0 ≡ get_or l i 0
 irq_list l v true i h = get_or-set_other l 0 i v 0 h
 irq_list l v false i h = refl
 
--- the stores of an end with Autoload leave the other registers; without, there are none
-auto_list : (l : List ℕ) (c e n : ℕ) (b : Bool) (i : ℕ) → (i < 2) ⊎ (8 < i) → get_or (made (listed (autoloaded b c e n)) l) i 0 ≡ get_or l i 0
+auto_list : (l : List ℕ) (c e n : ℕ) (b : Bool) (i : ℕ) → (i < 2) ⊎ (8 < i) → get_or (cond b (counters l c e n) l) i 0 ≡ get_or l i 0
 auto_list l c e n true i h = other_counters l c e n i h
 auto_list l c e n false i h = refl
 
@@ -205,67 +203,36 @@ status_length : (l : List ℕ) (done : Bool) → length (finished_status l done)
 status_length l true = simp length-set
 status_length l false = refl
 
--- a command that ends, no verify, with its stores made
-abbrev ended : Reu → Bool → Reu
-ended u auto = with_stores (finish_dma u false true) (autoload_stores u auto)
+-- the registers when a command ends, before the interrupt
+abbrev loaded : Reu → DmaState → Bool → List ℕ
+loaded u d done = autoloaded (finished u.regs done) d.autoload u.shadow_c64_addr u.shadow_reu_addr u.shadow_len
 
-ended_other : (u : Reu) (auto : Bool) (i : ℕ) → i ≢ 0 → (i < 2) ⊎ (8 < i) → reg (ended u auto) i ≡ get_or (finished u.regs false true) i 0
-unfolding finish_dma update_irq with_stores
-ended_other u auto i h k =
-    let l = finished u.regs false true in
-    auto_list (finish_dma u false true).regs u.shadow_c64_addr u.shadow_reu_addr u.shadow_len auto i k
-    ∙ irq_list l (bit_or (get_or l 0 0) 128) (irq_due l) i h
+finish_other : (u : Reu) (d : DmaState) (done : Bool) (i : ℕ) → i ≢ 0 → (i < 2) ⊎ (8 < i) → reg (finish_dma u d done) i ≡ get_or (finished u.regs done) i 0
+unfolding finish_dma update_irq
+finish_other u d done i h k =
+    irq_list (loaded u d done) (bit_or (get_or (loaded u d done) 0 0) 128) (irq_due (loaded u d done)) i h
+    ∙ auto_list (finished u.regs done) u.shadow_c64_addr u.shadow_reu_addr u.shadow_len d.autoload i k
 
--- v is what the end finds of u
-record Found (u v : Reu) : Type 0 where
-  long : length v.regs ≡ 11
-  command : reg v 1 ≡ reg u 1
-  control : reg v 10 ≡ reg u 10
-  terminal : v.terminal_swap_write ≡ false
-  delay : v.swap_read_delay ≡ 0
-  attached : v.attached ≡ true
+finish_command : (u : Reu) (d : DmaState) (done : Bool) → 1 < length u.regs
+    → reg (finish_dma u d done) 1 ≡ bit_or (bit_and (reg u 1) 127) 16
+finish_command u d done h =
+    finish_other u d done 1 (omega arith) (inl (omega arith))
+    ∙ get_or-set_same (finished_status u.regs done) 1 (bit_or (bit_and (get_or (finished_status u.regs done) 1 0) 127) 16) 0 (omega (arith, status_length u.regs done))
+    ∙ ap (λ (x : ℕ). bit_or (bit_and x 127) 16) (irq_list u.regs (bit_or (reg u 0) 64) done 1 (omega arith))
 
-module _ (u v : Reu) (auto : Bool) (f : Found u v) where
-  ended_command : reg (ended v auto) 1 ≡ bit_or (bit_and (reg u 1) 127) 16
-  ended_command =
-      let l = finished_status v.regs true in
-      ended_other v auto 1 (omega arith) (inl (omega arith))
-      ∙ get_or-set_same l 1 (bit_or (bit_and (get_or l 1 0) 127) 16) 0 (omega (arith, status_length v.regs true, f.long))
-      ∙ ap (λ (x : ℕ). bit_or (bit_and x 127) 16) (irq_list v.regs (bit_or (reg v 0) 64) true 1 (omega arith) ∙ f.command)
+finish_control : (u : Reu) (d : DmaState) (done : Bool) → reg (finish_dma u d done) 10 ≡ reg u 10
+finish_control u d done =
+    finish_other u d done 10 (omega arith) (inr (omega arith))
+    ∙ get_or-set_other (finished_status u.regs done) 1 10 (bit_or (bit_and (get_or (finished_status u.regs done) 1 0) 127) 16) 0 (omega arith)
+    ∙ irq_list u.regs (bit_or (reg u 0) 64) done 10 (omega arith)
 
-  ended_control : reg (ended v auto) 10 ≡ reg u 10
-  ended_control =
-      let l = finished_status v.regs true in
-      ended_other v auto 10 (omega arith) (inr (omega arith))
-      ∙ get_or-set_other l 1 10 (bit_or (bit_and (get_or l 1 0) 127) 16) 0 (omega arith)
-      ∙ irq_list v.regs (bit_or (reg v 0) 64) true 10 (omega arith) ∙ f.control
-
-  ended_quiet : Quiet (ended v auto)
-  unfolding finish_dma update_irq with_stores
-  ended_quiet = record { terminal = f.terminal; delay = f.delay; attached = f.attached; idle = refl }
+finish_quiet : (u : Reu) (d : DmaState) (done : Bool) → u.terminal_swap_write ≡ false → u.swap_read_delay ≡ 0
+    → u.attached ≡ true → Quiet (finish_dma u d done)
+unfolding finish_dma update_irq
+finish_quiet u d done t w a = record { terminal = t; delay = w; attached = a; idle = refl }
 
 counters_length : (l : List ℕ) (c e n : ℕ) → length (counters l c e n) ≡ length l
 counters_length l c e n = simp length-set
-
--- what the end of a swap's last byte finds: with Autoload the registers before it, with the live counters otherwise
-abbrev before_end : Reu → ℕ → ℕ → ℕ → Bool → Bool → Bool → Bool → Reu
-before_end u c e l auto one odd low =
-    let d : DmaState = swap_state WriteC64 c e 1 l auto one odd in
-    with_release (shown_last (with_history (ready u false false 0 true true (Running d)) true false) (moved d)) (not low)
-
-found : (auto : Bool) (u : Reu) (c e l : ℕ) (one odd low : Bool) → length u.regs ≡ 11
-    → Found u (before_end u c e l auto one odd low)
-unfolding publish_live_counters
-found true u c e l one odd low len = record { long = len; command = refl; control = refl; terminal = refl; delay = refl; attached = refl }
-found false u c e l one odd low len =
-    record {
-      long = counters_length u.regs ((c + 1) % 65536) ((e + 1) % 16777216) 1 ∙ len;
-      command = other_counters u.regs ((c + 1) % 65536) ((e + 1) % 16777216) 1 1 (inl (omega arith));
-      control = other_counters u.regs ((c + 1) % 65536) ((e + 1) % 16777216) 1 10 (inr (omega arith));
-      terminal = refl;
-      delay = refl;
-      attached = refl;
-    }
 
 last_ready : (u : Reu) (c e l : ℕ) (auto one odd : Bool) (m s : List ℕ) (n : ℕ) (low : Bool) → length u.regs ≡ 11
     → LastStep u c l m s
@@ -273,17 +240,25 @@ last_ready : (u : Reu) (c e l : ℕ) (auto one odd : Bool) (m s : List ℕ) (n :
     (bus_action (ready u false false 0 true true (Running (swap_state WriteC64 c e 1 l auto one odd))) s true true n).0.action
 unfolding cycle_computed
 last_ready u c e l auto one odd m s n low len =
-    let v = before_end u c e l auto one odd low in
-    let f = found auto u c e l one odd low len in
-    let q = ended_quiet u v auto f in
     record {
       granted = refl;
       bus = refl;
       storage = refl;
-      command = ended_command u v auto f;
-      control = ended_control u v auto f;
+      command =
+          finish_command v d true (omega (arith, counters_length u.regs ((c + 1) % 65536) ((e + 1) % 16777216) 1))
+          ∙ ap (λ (x : ℕ). bit_or (bit_and x 127) 16) (other_counters u.regs ((c + 1) % 65536) ((e + 1) % 16777216) 1 1 (inl (omega arith)));
+      control = finish_control v d true ∙ other_counters u.regs ((c + 1) % 65536) ((e + 1) % 16777216) 1 10 (inr (omega arith));
       quiet = record { terminal = q.terminal; delay = q.delay; attached = q.attached; idle = q.idle };
     }
+  where
+    d : DmaState
+    d = moved (swap_state WriteC64 c e 1 l auto one odd)
+
+    v : Reu
+    v = with_release (publish_live_counters (with_history (ready u false false 0 true true (Running (swap_state WriteC64 c e 1 l auto one odd))) true false) d) (not low)
+
+    q : Quiet (finish_dma v d true)
+    q = finish_quiet v d true refl refl refl
 
 pub last_step : (u : Reu) (c e l : ℕ) → Writing u c e 1 l → length u.regs ≡ 11 → (m s : List ℕ) (n : ℕ) (low : Bool)
     → LastStep u c l m s (run_reu_cycle u m s true true n low) (bus_action u s true true n).0.action
@@ -312,7 +287,7 @@ pub record IdleStep (u : Reu) (m s : List ℕ) (t : Ticked) : Type 0 where
 -- other flags, another delay, another count of granted cycles, and no transfer
 still : {answer waiting was repeat terminal late refresh release : Bool} {delay count : ℕ} (u : Reu) (m s : List ℕ)
     → IdleStep u m s (
-      ticked answer neither no_stores
+      ticked answer neither
           (reu_of u.regs u.shadow_c64_addr u.shadow_reu_addr u.shadow_len u.enabled u.irq_pending u.attached waiting was repeat terminal late
           refresh release delay Idle count u.size),
       m,
@@ -329,7 +304,7 @@ idle_choice : (u : Reu) (refresh high : Bool) (delay : ℕ) (m s : List ℕ) (n 
     → (v : Reu) → v ≡ before_choice u refresh high delay
     → (g : BusAnswer) → g ≡ cond none (granted Cpu v) (granted (cond last Transfer Hold) (with_delay v (delay - 1)))
     → IdleStep u m s (cycle_by g.action g.reu m (put_storage u.size g.put s) n low)
-unfolding counted cycle_by tick_dma tick_of with_stores
+unfolding counted cycle_by tick_dma tick_of
 idle_choice u refresh high delay m s n low false true v p g q = rw (q, p) (still u m s)
 idle_choice u refresh high delay m s n low false false v p g q = rw (q, p) (still u m s)
 idle_choice u refresh high delay m s n low true last v p g q = rw (q, p) (still u m s)

@@ -2,7 +2,6 @@ pub mod Accepted
 pub mod States
 pub mod Walk
 pub mod SavedMachine
-pub mod GrantLaw
 pub mod NumberLaw
 pub mod CycleLaw
 pub mod RegisterLaw
@@ -17,4 +16,3 @@ pub mod GrantedCycles
 pub mod PassedTop
 pub mod RemainingBytes
 pub mod ChipSize
-pub mod AutoloadStores

@@ -8,6 +8,7 @@ use lib.Bits.{bit_and, and_mask}
 use lib.Dec.{eqb, ltb}
 use Rattle.controller.specs.declared.reu.Reu.{Reu}
 use Rattle.controller.specs.declared.reu.ReadAnswer.{ReadAnswer}
+use Rattle.controller.specs.declared.reu.BusAnswer.{BusAnswer}
 use Rattle.controller.specs.declared.reu.TickAnswer.{TickAnswer}
 use Rattle.transfer.specs.declared.dma.DmaState.{DmaState}
 use Rattle.transfer.specs.declared.dma.Dma.{Dma}
@@ -22,17 +23,18 @@ use Rattle.transfer.specs.declared.timing.ReuBusAction.{ReuBusAction}
 use Rattle.transfer.specs.declared.timing.ReuBusAction.TheVariants.{Cpu, Hold, Transfer}
 use Rattle.transfer.specs.Bytes.{bit, with_low, with_high}
 use Rattle.regs.specs.Registers.{shown}
-use Rattle.transfer.specs.Timing.{action_number}
-use Rattle.transfer.specs.Dma.{moved}
-use Rattle.controller.specs.Reu.{reg, set_reg, with_armed, with_repeat}
+use Rattle.transfer.specs.Timing.{action_number, reads, resumes, swap_reads, swap_writes, writes}
+use Rattle.transfer.specs.Dma.{is_first_byte, is_last_byte, moved}
+use Rattle.controller.specs.Timing.{c64_access}
+use Rattle.transfer.proofs.Pick.{by-test}
+use Rattle.controller.specs.Reu.{reg, set_reg, with_armed, with_history, with_repeat}
 use Rattle.controller.specs.Registers.{read_register, write_c64, write_exp, write_len, write_bank, write_at, write_register, write_command}
 use Rattle.controller.specs.StartDma.{start_dma, trigger_ff00}
-use Rattle.controller.specs.FinishDma.{publish_live_counters, finish_dma, update_irq, with_stores}
+use Rattle.controller.specs.FinishDma.{publish_live_counters, finish_dma, update_irq}
 use Rattle.controller.specs.Enable.{set_enabled}
-use Rattle.controller.specs.BusAction.{bus_action}
-use Rattle.controller.specs.TickDma.{tick_dma, tick_of, tick_running, tick_by_type, tick_store, tick_recall, tick_swap, tick_verify, tick_tail, swap_read, swap_write, tick_refresh, advance, shown_last}
+use Rattle.controller.specs.BusAction.{bus_action, next_action, decide, fall, fall_on_read, fall_on_swap_write, fall_on_write, plain, repeated, resumed}
+use Rattle.controller.specs.TickDma.{tick_dma, tick_of, tick_running, tick_by_type, tick_store, tick_recall, tick_swap, tick_verify, tick_tail, swap_read, swap_write, tick_refresh, advance, differs, with_error}
 use Rattle.controller.specs.Cycle.{run_reu_cycle, capped, counted, cycle_by}
-use Rattle.claims.proofs.GrantLaw.{Face, Keeps, either, grant_face, kept}
 
 -- the count and the size, of a controller and of an answer that carries one
 abbrev pub Numbers : Type 0
@@ -44,12 +46,26 @@ of u = (u.granted_cycles, u.size)
 abbrev of_read : ReadAnswer → Numbers
 of_read a = of a.reu
 
+abbrev of_grant : BusAnswer → Numbers
+of_grant a = of a.reu
+
 abbrev of_tick : TickAnswer → Numbers
 of_tick t = of t.reu
 
 -- another count
 abbrev with : (ℕ → ℕ) → Numbers → Numbers
 with f p = (f p.0, p.1)
+
+-- they are n: a record, so that a chain of choices is compared choice by choice
+record Keeps {A : Type 0} (f : A → Numbers) (n : Numbers) (x : A) : Type 0 where
+  same : f x ≡ n
+
+kept : {A : Type 0} {f : A → Numbers} {n : Numbers} {x : A} → f x ≡ n → Keeps f n x
+kept e = record { same = e }
+
+-- what both arms keep, the choice keeps
+either : {A : Type 0} {f : A → Numbers} {n : Numbers} (b : Bool) {x y : A} → Keeps f n x → Keeps f n y → Keeps f n (cond b x y)
+either {f = f} {n = n} b {x} {y} p q = by-test (Keeps f n) b x y (λ _. p) (λ _. q)
 
 -- what each arm gives, the choice gives
 by_both : (b : Bool) (x y : Reu) (n k : Numbers) → of x ≡ n → of y ≡ k → of (cond b x y) ≡ cond b n k
@@ -72,20 +88,38 @@ switch_keeps u s false = refl
 
 -- ---- the grant
 
+fall_kept : (u : Reu) (late : Bool) → Keeps of_grant (of u) (fall u late)
+unfolding fall fall_on_read fall_on_swap_write fall_on_write plain
+fall_kept u late =
+    either (swap_reads u.dma) (either (is_first_byte u.dma) (kept refl) (either (is_last_byte u.dma) (kept refl) (kept refl)))
+    (either (reads (c64_access u)) (kept refl)
+    (either (swap_writes u.dma) (either late (kept refl) (kept refl))
+    (either (writes (c64_access u)) (either (is_last_byte u.dma) (kept refl) (kept refl)) (kept refl))))
+
+decide_kept : (u : Reu) (high falling late : Bool) → Keeps of_grant (of u) (decide u high falling late)
+unfolding decide plain
+decide_kept u high falling late =
+    either u.terminal_swap_write (kept refl)
+    (either (eqb u.swap_read_delay 0) (either falling (fall_kept u late) (kept refl)) (kept refl))
+
+resumed_kept : (u : Reu) (b : Bool) → Keeps of (of u) (resumed u b)
+resumed_kept u b = either b (kept refl) (kept refl)
+
 pub grant_keeps : (u : Reu) (s : List ℕ) (high phi1 : Bool) (cycle : ℕ) → of (bus_action u s high phi1 cycle).0.reu ≡ of u
-grant_keeps u s high phi1 cycle = ap (λ (x : Face). (x.7, x.8)) (grant_face u s high phi1 cycle)
+unfolding bus_action next_action repeated
+grant_keeps u s high phi1 cycle =
+    let falling = u.ba_was_high && not phi1 in
+    let resume = resumes u.dma (not u.ba_was_high && phi1) cycle in
+    let first = with_history u phi1 (phi1 && not high) in
+    (decide_kept (repeated (resumed first resume) falling) phi1 falling u.late_ba_fall).same ∙ (resumed_kept first resume).same
 
 -- ---- a tick
-
-shown_kept : (u : Reu) (d : DmaState) → Keeps of (of u) (shown_last u d)
-unfolding publish_live_counters
-shown_kept u d = either d.autoload (kept refl) (kept refl)
 
 advance_kept : (u : Reu) (d : DmaState) (error low : Bool) (put : Put) → Keeps of_tick (of u) (advance u d error low put)
 unfolding advance publish_live_counters finish_dma update_irq
 advance_kept u d error low put =
     either (error && (not (eqb d.remaining 1) && eqb (moved d).remaining 1)) (kept refl)
-    (either (eqb d.remaining 1 || error) (kept (shown_kept u (moved d)).same) (kept refl))
+    (either (eqb d.remaining 1 || error) (kept refl) (kept refl))
 
 swap_kept : (p : SwapPhase) (u : Reu) (d : DmaState) (b : Seen) (cycle : ℕ) (low : Bool) → Keeps of_tick (of u) (tick_swap p u d b cycle low)
 unfolding tick_swap swap_read swap_write
@@ -97,7 +131,7 @@ unfolding tick_by_type tick_store tick_recall tick_verify
 type_kept Store u d b cycle low = advance_kept u d _ _ _
 type_kept Recall u d b cycle low = advance_kept (with_repeat u (u.recall_repeat && d.first_byte)) _ _ _ _
 type_kept Swap u d b cycle low = swap_kept d.swap_phase u d b cycle low
-type_kept Verify u d b cycle low = advance_kept u d _ _ _
+type_kept Verify u d b cycle low = advance_kept (with_error u (differs b)) d _ _ _
 
 running_kept : (u : Reu) (d : DmaState) (b : Seen) (cycle : ℕ) (low : Bool) → Keeps of_tick (of u) (tick_running u d b cycle low)
 unfolding tick_running tick_refresh tick_tail finish_dma update_irq
@@ -111,7 +145,7 @@ dma_kept Idle u b cycle low = kept refl
 dma_kept (Running d) u b cycle low = either u.attached (running_kept u d b cycle low) (kept refl)
 
 pub tick_keeps : (u : Reu) (m s : List ℕ) (cycle : ℕ) (low : Bool) → of (tick_dma u m s cycle low).0.reu ≡ of u
-unfolding tick_dma with_stores
+unfolding tick_dma
 tick_keeps u m s cycle low = (dma_kept u.dma u _ cycle low).same
 
 -- ---- the cycle

@@ -14,16 +14,17 @@ use Rattle.controller.specs.declared.reu.TickAnswer.{TickAnswer}
 use Rattle.transfer.specs.declared.memory.Put.TheVariants.{Nothing}
 use lib.Count.{count_trailing_zeros}
 use Rattle.transfer.specs.Memory.{put_bus, put_storage, lines}
+use Rattle.transfer.specs.Dma.{with_tail}
 use Rattle.controller.specs.Registers.{read_register, write_register, write_command, debug_register as core_debug_register}
 use Rattle.controller.specs.Timing.{c64_access as core_c64_access}
 use Rattle.transfer.specs.Timing.{action_for_cycle}
-use Rattle.transfer.specs.Dma.{type_of, length_of}
+use Rattle.transfer.specs.Dma.{moved, type_of, length_of}
 use Rattle.regs.specs.StartDma.{requested}
 use Rattle.controller.specs.StartDma.{start_dma, trigger_ff00 as core_trigger_ff00}
-use Rattle.controller.specs.FinishDma.{publish_live_counters, finish_dma, update_irq, with_stores}
+use Rattle.controller.specs.FinishDma.{publish_live_counters, finish_dma, update_irq}
 use Rattle.controller.specs.Enable.{new_reu, connected, set_enabled as core_set_enabled}
 use Rattle.controller.specs.BusAction.{bus_action as core_bus_action, next_action, decide, fall, fall_on_read, fall_on_swap_write, plain, fall_on_write, repeated}
-use Rattle.controller.specs.TickDma.{tick_dma as core_tick_dma, tick_of, tick_running, tick_by_type, tick_store, tick_recall, tick_swap, tick_verify, tick_tail, swap_read, swap_write, tick_refresh, advance}
+use Rattle.controller.specs.TickDma.{tick_dma as core_tick_dma, tick_of, tick_running, tick_by_type, tick_store, tick_recall, tick_swap, tick_verify, tick_tail, swap_read, swap_write, tick_refresh, advance, with_error}
 use Rattle.controller.specs.Cycle.{run_reu_cycle, counted, cycle_by}
 use Rattle.controller.specs.Calls.{read_call}
 use Rattle.transfer.specs.Timing.{action_number}
@@ -197,7 +198,7 @@ module _ (m s : List ℕ) (mem : Memories new_size m s) where
 
 -- whoever unfolds this unfolds all that a session computes
 calls_computed : Unit {0}
-unfolding lines count_trailing_zeros run_reu_cycle counted cycle_by core_bus_action next_action decide fall fall_on_read fall_on_swap_write plain fall_on_write action_for_cycle core_c64_access repeated core_tick_dma tick_of tick_running tick_by_type tick_store tick_recall tick_swap tick_verify tick_tail swap_read swap_write tick_refresh advance publish_live_counters read_register write_register write_command core_debug_register start_dma core_trigger_ff00 requested type_of length_of finish_dma update_irq with_stores
+unfolding lines count_trailing_zeros run_reu_cycle counted cycle_by core_bus_action next_action decide fall fall_on_read fall_on_swap_write plain fall_on_write action_for_cycle core_c64_access repeated core_tick_dma tick_of tick_running tick_by_type tick_store tick_recall tick_swap tick_verify tick_tail swap_read swap_write tick_refresh advance publish_live_counters read_register write_register write_command core_debug_register start_dma core_trigger_ff00 requested type_of length_of finish_dma update_irq
 calls_computed = tt
 
 -- two bytes stored, at the last place and at the first
@@ -214,23 +215,20 @@ asked : ℕ → Reu
 asked n = (to (begin 0 0 n 0x93) (start [] [])).u
 
 compared : ℕ → Bool → TickAnswer
-compared n equal = advance (asked n) (requested (asked n).regs) (not equal) false Nothing
-
-left : TickAnswer → Reu
-left t = with_stores t.reu t.stores
+compared n equal = advance (with_error (asked n) (not equal)) (requested (asked n).regs) (not equal) false Nothing
 
 tailed : Bool → Reu
-tailed equal = counted (finish_dma (counted (left (compared 2 false))) false (not (not equal)))
+tailed equal = counted (finish_dma (counted (compared 2 false).reu) (with_tail (moved (requested (asked 2).regs)) true) (not (not equal)))
 
 module _ (m s : List ℕ) (ne : get_or m 0 0 ≢ get_or s 0 0) where
-  one_differs : (to (begin 0 0 3 0x93 ++ ticks 1) (start m s)).u ≡ counted (left (compared 3 false))
-  unfolding calls_computed asked compared left
-  one_differs = ap (λ (b : Bool). counted (left (compared 3 b))) (ne_eqb (get_or m 0 0) (get_or s 0 0) ne)
+  one_differs : (to (begin 0 0 3 0x93 ++ ticks 1) (start m s)).u ≡ counted (compared 3 false).reu
+  unfolding calls_computed asked compared
+  one_differs = ap (λ (b : Bool). counted (compared 3 b).reu) (ne_eqb (get_or m 0 0) (get_or s 0 0) ne)
 
   two_compared : (equal : Bool) → eqb (get_or m 1 0) (get_or s 1 0) ≡ equal → (to (begin 0 0 2 0x93 ++ ticks 2) (start m s)).u ≡ tailed equal
-  unfolding calls_computed asked compared left tailed
+  unfolding calls_computed asked compared tailed
   two_compared equal e =
-      ap (λ (b : Bool). let t = compared 2 b in (run_reu_cycle (counted (left t)) (put_bus t.put m) (put_storage new_size t.put s) true true 0 false).0.reu)
+      ap (λ (b : Bool). let t = compared 2 b in (run_reu_cycle (counted t.reu) (put_bus t.put m) (put_storage new_size t.put s) true true 0 false).0.reu)
       (ne_eqb (get_or m 0 0) (get_or s 0 0) ne) ∙ ap tailed e
 
 -- the swap that meets a late fall, on lists that have a first byte
@@ -242,7 +240,7 @@ late_fall (c ∷ m) [] hm hs = absurd (omega arith)
 late_fall (c ∷ m) (r ∷ s) hm hs = (refl, refl)
 
 table : (m s : List ℕ) → Memories new_size m s → Table m s
-unfolding calls_computed read_call asked compared left tailed
+unfolding calls_computed read_call asked compared tailed
 table m s mem =
     record {
       R1 = fresh_answers m s mem (read 0 ∷ read 1 ∷ read 2 ∷ read 3 ∷ read 4 ∷ read 5 ∷ read 6 ∷ read 7 ∷ read 8 ∷ read 9 ∷ read 10 ∷ []) (omega arith);

@@ -7,4 +7,3 @@ pub mod GrantedCycles
 pub mod PassedTop
 pub mod RemainingBytes
 pub mod ChipSize
-pub mod AutoloadStores

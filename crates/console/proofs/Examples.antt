@@ -1,10 +1,8 @@
--- Worked examples of the definitions, with what was expected written by hand: no command, what is said of a refused image and of a size, the marks,
--- and the stores.
+-- Worked examples of the definitions, with what was expected written by hand: no command, what is said of a refused image and of a size, and the marks.
 use Rattle.std.proofs.Common.{◌≡◌, ℕ, true, false, List, [], ◌∷◌, ◌++◌, replicate, refl}
 use Rattle.image.specs.Layout.{image_size}
 use Rattle.controller.specs.Refusals.{checked}
 use Rattle.transfer.specs.Dma.{neither}
-use Rattle.regs.specs.Stores.{all_stored, counter_stores, no_stores, store}
 use Rattle.image.specs.Open.{bytes_ok, image_ok, open_image}
 use Rattle.reu.specs.Exports.{change, look}
 use Rattle.text.specs.Shown.{◌⊕◌, ascii, decimal_up_to, fill_from, hex_of}
@@ -14,7 +12,7 @@ use Rattle.console.specs.declared.step.Cycle.{Cycle}
 use Rattle.console.specs.Apply.{apply_of, control_of, size_text, sized}
 use Rattle.lines.specs.Clock.{time_of}
 use Rattle.console.specs.Registers.{read_text, warning_of}
-use Rattle.console.specs.Step.{access_text, advanced, ba_text, bytes_there, counted, cycle_line, go_of, marks_of, passed_text, run_line, run_text, started, store_line}
+use Rattle.console.specs.Step.{access_text, advanced, ba_text, bytes_there, counted, cycle_line, go_of, marks_of, passed_text, run_line, run_text, started}
 
 -- a word that only ends in a name is no command: nothing is done
 left_alone :
@@ -33,7 +31,7 @@ fifth = record { cycle = 5; ba = record { bytes = []; used = 0 }; at = 0 }
 
 -- the grant is refused by 2: the access that was ready is not shown
 refused_cycle_lem :
-    cycle_line fifth record { grant = 33554432; access = 0x21000; offset = 0; passed = neither; stores = no_stores } [] [] ≡ ascii "+5  BA high  refused by 2"
+    cycle_line fifth record { grant = 33554432; access = 0x21000; offset = 0; passed = neither } [] [] ≡ ascii "+5  BA high  refused by 2"
 unfolding fifth cycle_line ba_text decimal_up_to ◌⊕◌
 refused_cycle_lem = refl
 
@@ -67,7 +65,7 @@ size_of_none = refl
 -- ---- the marks: a cycle that was granted answers 1, plus 2 for the C64's and plus 4 for the expansion's
 
 unfoldable granted : ℕ → Cycle
-granted answer = record { grant = 2; access = 0x1FFFF; offset = 0x7FFFF; passed = marks_of answer; stores = no_stores }
+granted answer = record { grant = 2; access = 0x1FFFF; offset = 0x7FFFF; passed = marks_of answer }
 
 over_both :
     cycle_line fifth (granted 7) [] []
@@ -84,21 +82,3 @@ over_neither = refl
 over_once : (counted (counted (started fifth) (granted 5)) (granted 1)).passed ≡ record { c64 = false; expansion = true }
 unfolding fifth granted counted
 over_once = refl
-
--- ---- the stores
-
-one_stored : store_line (store 6 0xF8) ≡ ascii "DF06 stored F8"
-unfolding store_line hex_of ◌⊕◌
-one_stored = refl
-
--- a cycle that ends a command with Autoload: its stores are the run's, and a cycle more has its own
-unfoldable last : Cycle
-last = record { grant = 2; access = 0x12001; offset = 1; passed = neither; stores = all_stored (counter_stores 0x2000 0xF80000 2) }
-
-stored_last : (counted (counted (started fifth) (granted 1)) last).stores ≡ all_stored (counter_stores 0x2000 0xF80000 2)
-unfolding fifth granted last counted
-stored_last = refl
-
-stored_before : (counted (counted (started fifth) last) (granted 1)).stores ≡ no_stores
-unfolding fifth granted last counted
-stored_before = refl

@@ -7,9 +7,7 @@ use Rattle.transfer.specs.Constants.{bus_size}
 use Rattle.image.specs.Layout.{place_of, transfer_exp}
 use Rattle.image.specs.Open.{open_image}
 use Rattle.reu.proofs.Families.{look_refused}
-use Rattle.reu.specs.Exports.{refusal, refusal_unit, reu_bus_action, reu_c64_access, reu_dma_active}
-use Rattle.reu.specs.declared.Logged.{Logged}
-use Rattle.reu.specs.Logged.{logged_cycle}
+use Rattle.reu.specs.Exports.{refusal, refusal_unit, reu_bus_action, reu_c64_access, reu_cycle, reu_dma_active}
 use Rattle.text.proofs.Cuts.{then}
 use Rattle.pane.specs.Answers.{accepted}
 use Rattle.pane.specs.Rows.{copy_of, long_at, size_in}
@@ -17,8 +15,6 @@ use Rattle.text.specs.Shown.{◌⊕◌, decimal_of}
 use Rattle.transfer.specs.Bytes.{bit, bit_of}
 use Rattle.transfer.specs.Dma.{neither}
 use Rattle.transfer.specs.declared.dma.Passed.{Passed}
-use Rattle.regs.specs.declared.stores.Stores.{Stores}
-use Rattle.regs.specs.Stores.{no_stores}
 use Rattle.transfer.proofs.Bits.{bit_digit, low_digit}
 use Rattle.lines.specs.declared.clock.Clock.{Clock}
 use Rattle.console.specs.declared.step.Cycle.{Cycle}
@@ -33,36 +29,36 @@ module _ (inputs number : ℕ) (i s : List ℕ) where
       → (x, s) ≡ cond (eqb lent bus_size) (asked_of inputs number i s) (refused_cycle 0, s)
   not_asked {lent} h e = rw (ne_eqb lent bus_size h) (λ j. (e j, s))
 
-  pub asked : {lent : ℕ} {copy j t : List ℕ} {grant access at size : ℕ} {l : Stores} → lent ≡ bus_size → copy ≡ copy_of i
+  pub asked : {lent : ℕ} {copy j t : List ℕ} {grant access at size : ℕ} → lent ≡ bus_size → copy ≡ copy_of i
       → (grant, j, t) ≡ reu_bus_action copy s (inputs / 4 % 2) (inputs / 2 % 2) number → access ≡ reu_c64_access j → at ≡ long_at j (place_of transfer_exp)
-      → size ≡ size_in j → l ≡ no_stores
-      → (record { grant = grant; access = access % refusal_unit; offset = at % size; passed = neither; stores = l }, t)
+      → size ≡ size_in j
+      → (record { grant = grant; access = access % refusal_unit; offset = at % size; passed = neither }, t)
       ≡ cond (eqb lent bus_size) (asked_of inputs number i s) (refused_cycle 0, s)
   unfolding asked_of
-  asked {lent} {t = t} {grant = grant} h c g a o z q =
+  asked {lent} {t = t} {grant = grant} h c g a o z =
       let same = g ∙ (λ x. reu_bus_action (c x) s (sym (bit_digit inputs 2) x) (sym (bit_digit inputs 1) x) number) in
       rw (eq-eqb lent bus_size h)
-      ((λ x. (record { grant = grant; access = a x % refusal_unit; offset = o x % z x; passed = neither; stores = q x }, t))
+      ((λ x. (record { grant = grant; access = a x % refusal_unit; offset = o x % z x; passed = neither }, t))
       ∙ ap
-      (λ (y : ℕ × List ℕ × List ℕ). (record { grant = y.0; access = reu_c64_access y.1 % refusal_unit; offset = long_at y.1 (place_of transfer_exp) % size_in y.1; passed = neither; stores = no_stores }, y.2))
+      (λ (y : ℕ × List ℕ × List ℕ). (record { grant = y.0; access = reu_c64_access y.1 % refusal_unit; offset = long_at y.1 (place_of transfer_exp) % size_in y.1; passed = neither }, y.2))
       same)
 
 -- a cycle, from what was asked before it and what it answered and left
 module _ (inputs number : ℕ) (i m s : List ℕ) (x : Cycle) (t : List ℕ)
     (a : (x, t) ≡ cond (eqb (length m) bus_size) (asked_of inputs number i s) (refused_cycle 0, s))
-    (k : Logged × List ℕ × List ℕ × List ℕ) (c : k ≡ logged_cycle i m t (inputs / 4 % 2) number (inputs % 2) (inputs / 2 % 2)) where
+    (k : ℕ × List ℕ × List ℕ × List ℕ) (c : k ≡ reu_cycle i m t (inputs / 4 % 2) number (inputs % 2) (inputs / 2 % 2)) where
   abbrev input : ℕ → ℕ
   input n = bit_of (bit inputs n)
 
-  abbrev cycle : List ℕ → (Logged × List ℕ × List ℕ × List ℕ)
-  cycle l = logged_cycle i m l (input 2) number (input 0) (input 1)
+  abbrev cycle : List ℕ → (ℕ × List ℕ × List ℕ × List ℕ)
+  cycle l = reu_cycle i m l (input 2) number (input 0) (input 1)
 
   bits : k ≡ cycle t
-  bits = c ∙ sym (λ j. logged_cycle i m t (bit_digit inputs 2 j) number (low_digit inputs j) (bit_digit inputs 1 j))
+  bits = c ∙ sym (λ j. reu_cycle i m t (bit_digit inputs 2 j) number (low_digit inputs j) (bit_digit inputs 1 j))
 
   -- as if nothing had been asked; and a cycle that is accepted had a bus of the right length, so that it was asked
   both : (b : Bool) → eqb (length m) bus_size ≡ b → (x, t) ≡ cond b (asked_of inputs number i s) (refused_cycle 0, s)
-      → (k ≡ cycle s) × (accepted (cycle s).0.answer ≡ true → x ≡ (asked_of inputs number i s).0)
+      → (k ≡ cycle s) × (accepted (cycle s).0 ≡ true → x ≡ (asked_of inputs number i s).0)
   unfolding asked_of
   both true e p = (
     bits ∙ ap (λ (y : Cycle × List ℕ). cycle y.1) p
@@ -74,28 +70,28 @@ module _ (inputs number : ℕ) (i m s : List ℕ) (x : Cycle) (t : List ℕ)
     λ h. absurd (false≢true (sym (other_bus m (eqb-false _ _ e) i s (input 2) number (input 0) (input 1)) ∙ h)),
   )
 
-  same : (k ≡ cycle s) × (accepted (cycle s).0.answer ≡ true → x ≡ (asked_of inputs number i s).0)
+  same : (k ≡ cycle s) × (accepted (cycle s).0 ≡ true → x ≡ (asked_of inputs number i s).0)
   same = both (eqb (length m) bus_size) refl a
 
-  module _ {test : Bool} (e : test ≡ accepted k.0.answer) where
-    is : test ≡ accepted (cycle s).0.answer
-    is = e ∙ ap (λ (y : Logged × List ℕ × List ℕ × List ℕ). accepted y.0.answer) same.0
+  module _ {test : Bool} (e : test ≡ accepted k.0) where
+    is : test ≡ accepted (cycle s).0
+    is = e ∙ ap (λ (y : ℕ × List ℕ × List ℕ × List ℕ). accepted y.0) same.0
 
-    pub ran : {p : Passed} → test ≡ true → p ≡ marks_of k.0.answer
-        → (record { grant = x.grant; access = x.access; offset = x.offset; passed = p; stores = k.0.stores }, k.1, k.2, k.3)
+    pub ran : {p : Passed} → test ≡ true → p ≡ marks_of k.0
+        → (record { grant = x.grant; access = x.access; offset = x.offset; passed = p }, k.1, k.2, k.3)
         ≡ cycle_of inputs number i m s
     unfolding cycle_of
     ran h q =
-        let ok : accepted (cycle s).0.answer ≡ true = sym is ∙ h in
+        let ok : accepted (cycle s).0 ≡ true = sym is ∙ h in
         rw ok
-        ((λ j. (record { grant = x.grant; access = x.access; offset = x.offset; passed = q j; stores = k.0.stores }, k.1, k.2, k.3))
-        ∙ (λ j. (with_marks (same.1 ok j) (same.0 j).0.answer (same.0 j).0.stores, (same.0 j).1, (same.0 j).2, (same.0 j).3)))
+        ((λ j. (record { grant = x.grant; access = x.access; offset = x.offset; passed = q j }, k.1, k.2, k.3))
+        ∙ (λ j. (with_marks (same.1 ok j) (same.0 j).0, (same.0 j).1, (same.0 j).2, (same.0 j).3)))
 
-    pub not_run : {y : Cycle} → test ≡ false → y ≡ refused_cycle k.0.answer → (y, k.1, k.2, k.3) ≡ cycle_of inputs number i m s
+    pub not_run : {y : Cycle} → test ≡ false → y ≡ refused_cycle k.0 → (y, k.1, k.2, k.3) ≡ cycle_of inputs number i m s
     unfolding cycle_of
     not_run h q =
-        let no : accepted (cycle s).0.answer ≡ false = sym is ∙ h in
-        rw no ((λ j. (q j, k.1, k.2, k.3)) ∙ (λ j. (refused_cycle (same.0 j).0.answer, (same.0 j).1, (same.0 j).2, (same.0 j).3)))
+        let no : accepted (cycle s).0 ≡ false = sym is ∙ h in
+        rw no ((λ j. (q j, k.1, k.2, k.3)) ∙ (λ j. (refused_cycle (same.0 j).0, (same.0 j).1, (same.0 j).2, (same.0 j).3)))
 
 -- its line, from its parts
 module _ (c : Clock) (done : Cycle) (m s : List ℕ) {none number ba granted : List ℕ} {letter : ℕ} {test : Bool}

@@ -1,13 +1,11 @@
 -- Turns: what the calls answered and left put together.
 use Rattle.std.proofs.Common.{◌≡◌, ℕ, ◌-◌, ◌<◌, ◌≤◌, Bool, true, false, List, [], ap, ◌∙◌, le-ltb, lt-ltb}
-use Rattle.regs.specs.declared.stores.Stores.{Stores}
-use Rattle.regs.specs.Stores.{no_stores}
 use Rattle.text.specs.Typed.{word_of}
 use Rattle.console.specs.declared.session.Session.{Session}
-use Rattle.console.specs.Apply.{Outcome, apply_of, apply_stores, step_outcome, step_stores}
+use Rattle.console.specs.Apply.{Outcome, apply_of, step_outcome}
 use Rattle.lines.specs.Commands.{line_fault}
 use Rattle.pane.specs.Rows.{size_in}
-use Rattle.console.specs.Session.{Turn, cycle_turn, dropped_turn, ended_after, fault_in, held_of, is_dropped, obey_turn, steps_of, turn_of, turn_stores}
+use Rattle.console.specs.Session.{Turn, cycle_turn, dropped_turn, ended_after, fault_in, held_of, is_dropped, obey_turn, steps_of, turn_of}
 
 -- what is wrong with a line, where the storage's last offset is that of the image's size
 pub at_last_offset : (t i : List ℕ) {fault : List ℕ} {size : ℕ} → fault ≡ line_fault t (size - 1) → size ≡ size_in i → fault ≡ fault_in i t
@@ -34,20 +32,16 @@ module _ (z : Session) (i m s : List ℕ) where
         ◌≡◌ {A = Turn} (held_of y i m s, said, line) (dropped_turn t z i m s)
     no_line p q r = λ j. (held_of (p j) i m s, q j, r j)
 
-    -- what a turn does and what it stores
-    abbrev Taken : Turn → Stores → Type 0
-    Taken x l = (x ≡ turn_of t z i m s) × (l ≡ turn_stores t z i m s)
-
     -- a turn, by whether cycles are still to be stepped, and whether the line is forgotten
-    pub steps : {x : Turn} {l : Stores} → 0 < z.left → (x ≡ cycle_turn z i m s) × (l ≡ step_stores z.clock i m s) → Taken x l
-    unfolding turn_of turn_stores
+    pub steps : {x : Turn} → 0 < z.left → x ≡ cycle_turn z i m s → x ≡ turn_of t z i m s
+    unfolding turn_of
     steps h p = rw (lt-ltb _ _ h) p
 
     module _ (h : z.left ≤ 0) {b : Bool} (e : b ≡ is_dropped t (fault_in i t)) where
-      pub forgets : {x : Turn} {l : Stores} → b ≡ true → (x ≡ dropped_turn t z i m s) × (l ≡ no_stores) → Taken x l
-      unfolding turn_of turn_stores
+      pub forgets : {x : Turn} → b ≡ true → x ≡ dropped_turn t z i m s → x ≡ turn_of t z i m s
+      unfolding turn_of
       forgets q p = rw (le-ltb _ _ h, ← e, q) p
 
-      pub obeys : {x : Turn} {l : Stores} → b ≡ false → (x ≡ obey_turn t z i m s) × (l ≡ apply_stores (word_of 0 t) t z.clock i m s) → Taken x l
-      unfolding turn_of turn_stores
+      pub obeys : {x : Turn} → b ≡ false → x ≡ obey_turn t z i m s → x ≡ turn_of t z i m s
+      unfolding turn_of
       obeys q p = rw (le-ltb _ _ h, ← e, q) p

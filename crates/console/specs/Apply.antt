@@ -2,8 +2,6 @@
 -- t is the line that was typed, c the time.
 use Rattle.std.specs.Prelude.{ℕ, ◌/◌, cond, List, [], ◌∷◌, ◌==◌}
 use Rattle.transfer.specs.Memory.{zeros}
-use Rattle.regs.specs.declared.stores.Stores.{Stores}
-use Rattle.regs.specs.Stores.{no_stores}
 use Rattle.reu.specs.Exports.{refusal, reu_dma_active, reu_new, reu_reset, reu_set_enabled, reu_set_size, reu_trigger_ff00}
 use Rattle.pane.specs.Answers.{accepted, refused_by}
 use Rattle.text.specs.Shown.{◌⊕◌, ascii, decimal_of, text_of}
@@ -53,20 +51,12 @@ step_outcome c i m s =
     let x : (Cycle × List ℕ × List ℕ × List ℕ) = cycle_of (inputs_of (letter_of c)) c.cycle i m s in
     (time_after (time_of c) x.0.grant, cycle_line c x.0 x.2 x.3, x.1, x.2, x.3)
 
--- what that cycle stores; L5: "The core step hands out these stores, index and value, beside its answer"
-unfoldable pub step_stores : Clock → List ℕ → List ℕ → List ℕ → Stores
-step_stores c i m s = (cycle_of (inputs_of (letter_of c)) c.cycle i m s).0.stores
-
 -- `g`: cycles until the command ends; a swap of 65,536 bytes takes half the limit
 unfoldable pub go_outcome : List ℕ → Clock → List ℕ → List ℕ → List ℕ → Outcome
 go_outcome t c i m s =
     let x : Running = go_of (count_or t 0x40000) (started c, i, m, s) in
     cond (reu_dma_active i == 0) (time_of c, [] ⊕ ascii "no command runs (an armed one waits for ff00)", i, m, s)
     (time_of x.0.clock, run_line x.0 x.1, x.1, x.2, x.3)
-
--- what the last of these cycles stores; nothing where no command runs
-unfoldable pub go_stores : List ℕ → Clock → List ℕ → List ℕ → List ℕ → Stores
-go_stores t c i m s = cond (reu_dma_active i == 0) no_stores (go_of (count_or t 0x40000) (started c, i, m, s)).0.stores
 
 -- ---- the commands, by their word w
 
@@ -90,7 +80,3 @@ apply_of w t c i m s =
     (cond (is "disable" w) (time_of c, [], (reu_set_enabled i s 0).1, m, (reu_set_enabled i s 0).2)
     (cond (is "new" w) ((0, [], 0), [], (reu_new i).1, zeros m, zeros s)
     (cond (is "g" w) (go_outcome t c i m s) (x.0, x.1, x.2, m, s))))))
-
--- of these `g` alone makes cycles, which may store
-unfoldable pub apply_stores : List ℕ → List ℕ → Clock → List ℕ → List ℕ → List ℕ → Stores
-apply_stores w t c i m s = cond (is "g" w) (go_stores t c i m s) no_stores

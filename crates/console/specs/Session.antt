@@ -1,11 +1,9 @@
 -- A session: what is held from one turn to the next, and what a turn does. z is the session, i the image, m the bus, s the
 -- storage, t the line that was typed.
 use Rattle.std.specs.Prelude.{ℕ, ◌-◌, Bool, true, cond, List, [], length, ◌==◌, nat_lt}
-use Rattle.regs.specs.declared.stores.Stores.{Stores}
-use Rattle.regs.specs.Stores.{no_stores}
 use Rattle.text.specs.Typed.{word_of}
 use Rattle.console.specs.declared.session.Session.{Session}
-use Rattle.console.specs.Apply.{Outcome, apply_of, apply_stores, count_or, step_outcome, step_stores}
+use Rattle.console.specs.Apply.{Outcome, apply_of, count_or, step_outcome}
 use Rattle.lines.specs.Clock.{Time, time_of}
 use Rattle.lines.specs.Commands.{is, is_comment, line_fault}
 use Rattle.pane.specs.Rows.{size_in}
@@ -73,9 +71,3 @@ unfoldable pub turn_of : List ℕ → Session → List ℕ → List ℕ → List
 turn_of t z i m s =
     cond (nat_lt 0 z.left) (cycle_turn z i m s)
     (cond (is_dropped t (fault_in i t)) (dropped_turn t z i m s) (obey_turn t z i m s))
-
--- what a turn stores: a cycle's stores or the command's, and none where the line is forgotten
-unfoldable pub turn_stores : List ℕ → Session → List ℕ → List ℕ → List ℕ → Stores
-turn_stores t z i m s =
-    cond (nat_lt 0 z.left) (step_stores z.clock i m s)
-    (cond (is_dropped t (fault_in i t)) no_stores (apply_stores (word_of 0 t) t z.clock i m s))

@@ -3,12 +3,8 @@ use Rattle.std.specs.Prelude.{ℕ, zero, suc, ◌+◌, ◌/◌, ◌%◌, ◌^◌
 use Rattle.transfer.specs.Bytes.{bit, bit_of}
 use Rattle.transfer.specs.Dma.{neither}
 use Rattle.transfer.specs.declared.dma.Passed.{Passed}
-use Rattle.regs.specs.declared.stores.RegisterStore.{RegisterStore}
-use Rattle.regs.specs.declared.stores.Stores.{Stores}
-use Rattle.regs.specs.Stores.{no_stores}
 use Rattle.image.specs.Layout.{place_of, transfer_exp}
 use Rattle.reu.specs.Exports.{refusal_unit, reu_bus_action, reu_c64_access, reu_cycle, reu_dma_active}
-use Rattle.reu.specs.Logged.{cycle_stores}
 use Rattle.pane.specs.Answers.{accepted, refused_by}
 use Rattle.pane.specs.Rows.{copy_of, long_at, size_in}
 use Rattle.text.specs.Bytes.{byte_at}
@@ -20,33 +16,31 @@ use Rattle.lines.specs.Clock.{Time, inputs_of, letter_of, next_clock, next_time}
 
 -- ---- one cycle; the inputs are `ba_high`, `ba_high_phi1` and `ba_low` as bits 2, 1 and 0
 
--- that it was refused, by what was answered: no access was made, and nothing was stored
+-- that it was refused, by what was answered: no access was made
 abbrev pub refused_cycle : ℕ → Cycle
-refused_cycle answer = record { grant = answer; access = 0; offset = 0; passed = neither; stores = no_stores }
+refused_cycle answer = record { grant = answer; access = 0; offset = 0; passed = neither }
 
 -- "it asks `bus_action`": asked before it of a copy of the image, with the access that is then ready (a refusal has the value 0,
 -- which is none) and the storage's offset by the expansion address and the size in it (L4: "folding keeps that many low bits"), and marks
--- and stores nothing yet; and the storage after that
+-- nothing yet; and the storage after that
 unfoldable pub asked_of : ℕ → ℕ → List ℕ → List ℕ → (Cycle × List ℕ)
 asked_of inputs number i s =
     let g : (ℕ × List ℕ × List ℕ) = reu_bus_action (copy_of i) s (bit_of (bit inputs 2)) (bit_of (bit inputs 1)) number in
-    (record { grant = g.0; access = reu_c64_access g.1 % refusal_unit; offset = long_at g.1 (place_of transfer_exp) % size_in g.1; passed = neither; stores = no_stores }, g.2)
+    (record { grant = g.0; access = reu_c64_access g.1 % refusal_unit; offset = long_at g.1 (place_of transfer_exp) % size_in g.1; passed = neither }, g.2)
 
 -- which address ran over its top, by the cycle's answer: "plus 2 and plus 4"
 abbrev pub marks_of : ℕ → Passed
 marks_of answer = record { c64 = bit answer 1; expansion = bit answer 2 }
 
--- a cycle that was asked for, with them, and with what it stores
-abbrev pub with_marks : Cycle → ℕ → Stores → Cycle
-with_marks x answer l = record { grant = x.grant; access = x.access; offset = x.offset; passed = marks_of answer; stores = l }
+-- a cycle that was asked for, with them
+abbrev pub with_marks : Cycle → ℕ → Cycle
+with_marks x answer = record { grant = x.grant; access = x.access; offset = x.offset; passed = marks_of answer }
 
--- the library's cycle: what it leaves; shown is what was asked before it with the marks that it answers and the stores that it makes (L5:
--- "The core step hands out these stores, index and value, beside its answer"), or that it was refused
+-- the library's cycle: what it leaves; shown is what was asked before it with the marks that it answers, or that it was refused
 unfoldable pub cycle_of : ℕ → ℕ → List ℕ → List ℕ → List ℕ → (Cycle × List ℕ × List ℕ × List ℕ)
 cycle_of inputs number i m s =
     let k : (ℕ × List ℕ × List ℕ × List ℕ) = reu_cycle i m s (bit_of (bit inputs 2)) number (bit_of (bit inputs 0)) (bit_of (bit inputs 1)) in
-    let l : Stores = cycle_stores i m s (bit_of (bit inputs 2)) number (bit_of (bit inputs 0)) (bit_of (bit inputs 1)) in
-    (cond (accepted k.0) (with_marks (asked_of inputs number i s).0 k.0 l) (refused_cycle k.0), k.1, k.2, k.3)
+    (cond (accepted k.0) (with_marks (asked_of inputs number i s).0 k.0) (refused_cycle k.0), k.1, k.2, k.3)
 
 -- the time after a cycle with this grant: one that was refused takes none
 unfoldable pub time_after : Time → ℕ → Time
@@ -93,10 +87,6 @@ cycle_line c done m s =
     let t : List ℕ = ba_text ([] ⊕ decimal_of c.cycle) (letter_of c) ⊕ grant_text done.grant in
     cond (accepted done.grant) (passed_text (bytes_there (access_text t done.access) done m s) done.passed) t
 
--- a register that was stored, by its address, and the byte: "index and value"
-unfoldable pub store_line : RegisterStore → List ℕ
-store_line x = [] ⊕ hex_of 4 (0xDF00 + x.index) ⊕ ascii " stored " ⊕ hex_of 2 x.value
-
 -- ---- until the command ends
 
 -- a run, with the image, the bus and the storage
@@ -104,20 +94,20 @@ abbrev pub Running : Type 0
 Running = Run × List ℕ × List ℕ × List ℕ
 
 abbrev pub started : Clock → Run
-started c = record { clock = c; granted = 0; held = 0; passed = neither; stores = no_stores }
+started c = record { clock = c; granted = 0; held = 0; passed = neither }
 
 -- a mark of either
 abbrev pub either_of : Passed → Passed → Passed
 either_of p q = record { c64 = p.c64 || q.c64; expansion = p.expansion || q.expansion }
 
--- a cycle more; 64 bits. Its marks stay for the rest of the run, and its stores until the next. One that is refused is none
+-- a cycle more; 64 bits. Its marks stay for the rest of the run. One that is refused is none
 unfoldable pub counted : Run → Cycle → Run
 counted r done =
     let p : Passed = either_of r.passed done.passed in
     cond (done.grant == 2)
-    record { clock = next_clock r.clock; granted = (r.granted + 1) % 2 ^ 64; held = r.held; passed = p; stores = done.stores }
+    record { clock = next_clock r.clock; granted = (r.granted + 1) % 2 ^ 64; held = r.held; passed = p }
     (cond (accepted done.grant)
-    record { clock = next_clock r.clock; granted = r.granted; held = (r.held + 1) % 2 ^ 64; passed = p; stores = done.stores } r)
+    record { clock = next_clock r.clock; granted = r.granted; held = (r.held + 1) % 2 ^ 64; passed = p } r)
 
 -- a cycle while a command runs: none once it has ended, and none of a refused image
 unfoldable pub advanced : Running → Running

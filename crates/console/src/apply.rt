@@ -1,11 +1,10 @@
 // What a command does to the machine and to the time, and what it says. Commands that only show, and those on files, are not here.
 ghost use Rattle.std.specs.Prelude.{◌≡◌, []};
 ghost use Rattle.transfer.specs.Memory.{zeros};
-ghost use Rattle.regs.specs.Stores.{no_stores};
 ghost use Rattle.text.specs.Shown.{text_of};
 ghost use Rattle.text.specs.Typed.{word_of};
 ghost use Rattle.reu.specs.Exports.{reu_new, reu_reset, reu_set_enabled, reu_trigger_ff00};
-ghost use Rattle.console.specs.Apply.{apply_of, apply_stores, bus_hint, control_of, count_or, cycle_time, cycle_text, go_outcome, go_stores, size_text, sized, step_outcome, step_stores};
+ghost use Rattle.console.specs.Apply.{apply_of, bus_hint, control_of, count_or, cycle_time, cycle_text, go_outcome, size_text, sized, step_outcome};
 ghost use Rattle.lines.specs.Clock.{time_of};
 ghost use Rattle.lines.specs.Memory.{stored};
 ghost use Rattle.console.specs.Registers.{after_read, read_text, warning_of, written};
@@ -17,7 +16,6 @@ use lines::commands::{place, size_typed};
 use lines::keys;
 use lines::memory::{address_of, store};
 use pane::answers::{REFUSAL_UNIT, is_accepted, refusal};
-use regs::Stores;
 use text::faults::value;
 use text::line::Line;
 
@@ -32,8 +30,6 @@ pub struct Applied {
     pub clock: Clock,
     // A line to show; no bytes where there is nothing to say.
     pub said: Line,
-    // The registers that were stored as a command ended with Autoload; none where none has.
-    pub stores: Stores,
 }
 
 // A command's number, or another where it has none.
@@ -61,28 +57,24 @@ fn bus_hint(line: Line) -> Line
 fn poke(line: Line, clock: Clock, bus: &mut [u8]) -> Applied
     ensures clock_value { result.clock ≡ clock }
     ensures said_value { text_of result.said ≡ bus_hint (text_of line) }
-    ensures stores_value { result.stores ≡ no_stores }
     ensures bus_after { bus.new ≡ stored (text_of line) bus.old }
 {
     store(line, bus);
     Applied {
         clock,
         said: bus_hint(line),
-        stores: Stores::none(),
     }
 }
 
 fn poke_storage(line: Line, clock: Clock, storage: &mut [u8]) -> Applied
     ensures clock_value { result.clock ≡ clock }
     ensures said_value { text_of result.said ≡ [] }
-    ensures stores_value { result.stores ≡ no_stores }
     ensures storage_after { storage.new ≡ stored (text_of line) storage.old }
 {
     store(line, storage);
     Applied {
         clock,
         said: Line::new(),
-        stores: Stores::none(),
     }
 }
 
@@ -91,49 +83,39 @@ fn poke_storage(line: Line, clock: Clock, storage: &mut [u8]) -> Applied
 fn write(line: Line, clock: Clock, image: &mut [u8]) -> Applied
     ensures clock_value { result.clock ≡ clock }
     ensures said_value { text_of result.said ≡ warning_of image.old }
-    ensures stores_value { result.stores ≡ no_stores }
     ensures image_after { image.new ≡ written (text_of line) image.old }
 {
     let said = registers::warning(image);
     registers::write(line, image);
-    Applied {
-        clock,
-        said,
-        stores: Stores::none(),
-    }
+    Applied { clock, said }
 }
 
 fn read(line: Line, clock: Clock, image: &mut [u8]) -> Applied
     ensures clock_value { result.clock ≡ clock }
     ensures said_value { text_of result.said ≡ read_text (text_of line) image.old }
-    ensures stores_value { result.stores ≡ no_stores }
     ensures image_after { image.new ≡ after_read (text_of line) image.old }
 {
     Applied {
         clock,
         said: registers::read(line, image),
-        stores: Stores::none(),
     }
 }
 
 fn trigger(clock: Clock, image: &mut [u8]) -> Applied
     ensures clock_value { result.clock ≡ clock }
     ensures said_value { text_of result.said ≡ [] }
-    ensures stores_value { result.stores ≡ no_stores }
     ensures image_after { image.new ≡ (reu_trigger_ff00 image.old).1 }
 {
     reu::reu_trigger_ff00(image);
     Applied {
         clock,
         said: Line::new(),
-        stores: Stores::none(),
     }
 }
 
 fn switch(clock: Clock, image: &mut [u8], storage: &mut [u8], enabled: u32) -> Applied
     ensures clock_value { result.clock ≡ clock }
     ensures said_value { text_of result.said ≡ [] }
-    ensures stores_value { result.stores ≡ no_stores }
     ensures image_after { image.new ≡ (reu_set_enabled image.old storage.old enabled).1 }
     ensures storage_after { storage.new ≡ (reu_set_enabled image.old storage.old enabled).2 }
 {
@@ -141,21 +123,18 @@ fn switch(clock: Clock, image: &mut [u8], storage: &mut [u8], enabled: u32) -> A
     Applied {
         clock,
         said: Line::new(),
-        stores: Stores::none(),
     }
 }
 
 fn reset(clock: Clock, image: &mut [u8]) -> Applied
     ensures clock_value { result.clock ≡ clock }
     ensures said_value { text_of result.said ≡ [] }
-    ensures stores_value { result.stores ≡ no_stores }
     ensures image_after { image.new ≡ (reu_reset image.old 0).1 }
 {
     reu::reu_reset(image, 0);
     Applied {
         clock,
         said: Line::new(),
-        stores: Stores::none(),
     }
 }
 
@@ -176,21 +155,18 @@ fn size_text(answer: u32) -> Line
 fn set_size(line: Line, clock: Clock, image: &mut [u8]) -> Applied
     ensures clock_value { result.clock ≡ clock }
     ensures said_value { text_of result.said ≡ size_text (sized (text_of line) image.old).0 }
-    ensures stores_value { result.stores ≡ no_stores }
     ensures image_after { image.new ≡ (sized (text_of line) image.old).1 }
 {
     let answer = reu::reu_set_size(image, size_typed(line.word(1)));
     Applied {
         clock,
         said: size_text(answer),
-        stores: Stores::none(),
     }
 }
 
 fn renew(image: &mut [u8], bus: &mut [u8], storage: &mut [u8]) -> Applied
     ensures clock_value { time_of result.clock ≡ (0, [], 0) }
     ensures said_value { text_of result.said ≡ [] }
-    ensures stores_value { result.stores ≡ no_stores }
     ensures image_after { image.new ≡ (reu_new image.old).1 }
     ensures bus_after { bus.new ≡ zeros bus.old }
     ensures storage_after { storage.new ≡ zeros storage.old }
@@ -201,7 +177,6 @@ fn renew(image: &mut [u8], bus: &mut [u8], storage: &mut [u8]) -> Applied
     Applied {
         clock: Clock::new(),
         said: Line::new(),
-        stores: Stores::none(),
     }
 }
 
@@ -210,7 +185,6 @@ fn renew(image: &mut [u8], bus: &mut [u8], storage: &mut [u8]) -> Applied
 fn set_ba(line: Line, clock: Clock) -> Applied
     ensures clock_value { time_of result.clock ≡ (clock.cycle, word_of 1 (text_of line), 0) }
     ensures said_value { text_of result.said ≡ [] }
-    ensures stores_value { result.stores ≡ no_stores }
 {
     let later = Clock {
         cycle: clock.cycle,
@@ -220,14 +194,12 @@ fn set_ba(line: Line, clock: Clock) -> Applied
     Applied {
         clock: later,
         said: Line::new(),
-        stores: Stores::none(),
     }
 }
 
 fn set_cycle(line: Line, clock: Clock) -> Applied
     ensures clock_value { time_of result.clock ≡ cycle_time (text_of line) clock }
     ensures said_value { text_of result.said ≡ cycle_text (text_of line) clock }
-    ensures stores_value { result.stores ≡ no_stores }
 {
     if line.words() == 2 {
         let ba = clock.ba;
@@ -239,29 +211,21 @@ fn set_cycle(line: Line, clock: Clock) -> Applied
         return Applied {
             clock: later,
             said: Line::new(),
-            stores: Stores::none(),
         };
     }
     let said = Line::new().text(b"the next cycle is ").decimal(clock.cycle);
-    Applied {
-        clock,
-        said,
-        stores: Stores::none(),
-    }
+    Applied { clock, said }
 }
 
 // One bus cycle: what it was granted, and the bytes after it.
 pub fn step(clock: Clock, image: &mut [u8], bus: &mut [u8], storage: &mut [u8]) -> Applied
-    ensures storage_after { (time_of result.clock, text_of result.said, image.new, bus.new, storage.new) ≡ step_outcome clock image.old bus.old storage.old }
-    ensures stores_value { result.stores ≡ step_stores clock image.old bus.old storage.old }
+    ensures { (time_of result.clock, text_of result.said, image.new, bus.new, storage.new) ≡ step_outcome clock image.old bus.old storage.old }
 {
     let done = run_cycle(clock.inputs(), clock.cycle, image, bus, storage);
     let said = cycle_line(clock, done, bus, storage);
-    let stores = done.stores;
     Applied {
         clock: after(clock, done.grant),
         said,
-        stores,
     }
 }
 
@@ -272,26 +236,16 @@ fn run_command(
     bus: &mut [u8],
     storage: &mut [u8],
 ) -> Applied
-    ensures storage_after { (time_of result.clock, text_of result.said, image.new, bus.new, storage.new) ≡ go_outcome (text_of line) clock image.old bus.old storage.old }
-    ensures stores_value { result.stores ≡ go_stores (text_of line) clock image.old bus.old storage.old }
+    ensures { (time_of result.clock, text_of result.said, image.new, bus.new, storage.new) ≡ go_outcome (text_of line) clock image.old bus.old storage.old }
 {
     if reu::reu_dma_active(image) == 0 {
         let said = Line::new().text(b"no command runs (an armed one waits for ff00)");
-        return Applied {
-            clock,
-            said,
-            stores: Stores::none(),
-        };
+        return Applied { clock, said };
     }
     let run = go(clock, count_or(line, LIMIT), image, bus, storage);
     let said = run_line(run, image);
     let later = run.clock;
-    let stores = run.stores;
-    Applied {
-        clock: later,
-        said,
-        stores,
-    }
+    Applied { clock: later, said }
 }
 
 // ---- any of them
@@ -299,19 +253,16 @@ fn run_command(
 fn quiet(clock: Clock) -> Applied
     ensures clock_value { result.clock ≡ clock }
     ensures said_value { text_of result.said ≡ [] }
-    ensures stores_value { result.stores ≡ no_stores }
 {
     Applied {
         clock,
         said: Line::new(),
-        stores: Stores::none(),
     }
 }
 
 // A command about the controller or the time alone: nothing, where it is none of these.
 fn control(line: Line, clock: Clock, image: &mut [u8]) -> Applied
-    ensures image_after { (time_of result.clock, text_of result.said, image.new) ≡ control_of (word_of 0 (text_of line)) (text_of line) clock image.old }
-    ensures stores_value { result.stores ≡ no_stores }
+    ensures { (time_of result.clock, text_of result.said, image.new) ≡ control_of (word_of 0 (text_of line)) (text_of line) clock image.old }
 {
     let place = place(line);
     match place {
@@ -335,8 +286,7 @@ pub fn apply(
     bus: &mut [u8],
     storage: &mut [u8],
 ) -> Applied
-    ensures storage_after { (time_of result.clock, text_of result.said, image.new, bus.new, storage.new) ≡ apply_of (word_of 0 (text_of line)) (text_of line) clock image.old bus.old storage.old }
-    ensures stores_value { result.stores ≡ apply_stores (word_of 0 (text_of line)) (text_of line) clock image.old bus.old storage.old }
+    ensures { (time_of result.clock, text_of result.said, image.new, bus.new, storage.new) ≡ apply_of (word_of 0 (text_of line)) (text_of line) clock image.old bus.old storage.old }
 {
     let place = place(line);
     match place {

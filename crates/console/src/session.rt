@@ -1,19 +1,15 @@
 // A session: what is remembered from one turn to the next, and what a turn does. While cycles are still to be stepped a turn is
 // one cycle; otherwise it is one line. What only shows, and what has to do with files, is left to whoever has the terminal.
 ghost use Rattle.std.specs.Prelude.{◌≡◌, ◌-◌, false, []};
-ghost use Rattle.regs.specs.Stores.{no_stores};
 ghost use Rattle.text.specs.Shown.{text_of};
-ghost use Rattle.text.specs.Typed.{word_of};
 ghost use Rattle.lines.specs.Clock.{time_of};
-ghost use Rattle.console.specs.Apply.{apply_stores, step_stores};
-ghost use Rattle.console.specs.Session.{cycle_turn, ended_after, ended_session, held_of, is_dropped, obey_turn, steps_of, turn_of, turn_stores};
+ghost use Rattle.console.specs.Session.{cycle_turn, ended_after, ended_session, held_of, is_dropped, obey_turn, steps_of, turn_of};
 
 use crate::apply::{apply, count_or, step};
 use lines::clock::Clock;
 use lines::commands::{is_comment, line_fault, place};
 use lines::keys;
 use pane::rows::size_in;
-use regs::Stores;
 use text::line::Line;
 
 #[derive(Drop)]
@@ -31,8 +27,6 @@ pub struct Turned {
     pub said: Line,
     // The line that was obeyed; no bytes where none was.
     pub line: Line,
-    // The registers that were stored as a command ended with Autoload; none where none has.
-    pub stores: Stores,
 }
 
 impl Session {
@@ -67,13 +61,11 @@ fn one_fewer(count: u32) -> u32
 }
 
 fn cycle(session: Session, image: &mut [u8], bus: &mut [u8], storage: &mut [u8]) -> Turned
-    ensures line_after { (held_of result.session image.new bus.new storage.new, text_of result.said, text_of result.line) ≡ cycle_turn session image.old bus.old storage.old }
-    ensures stores_value { result.stores ≡ step_stores session.clock image.old bus.old storage.old }
+    ensures { (held_of result.session image.new bus.new storage.new, text_of result.said, text_of result.line) ≡ cycle_turn session image.old bus.old storage.old }
 {
     let done = step(session.clock, image, bus, storage);
     let clock = done.clock;
     let said = done.said;
-    let stores = done.stores;
     let later = Session {
         clock,
         left: one_fewer(session.left),
@@ -83,7 +75,6 @@ fn cycle(session: Session, image: &mut [u8], bus: &mut [u8], storage: &mut [u8])
         session: later,
         said,
         line: Line::new(),
-        stores,
     }
 }
 
@@ -125,13 +116,11 @@ fn obey(
     bus: &mut [u8],
     storage: &mut [u8],
 ) -> Turned
-    ensures line_after { (held_of result.session image.new bus.new storage.new, text_of result.said, text_of result.line) ≡ obey_turn (text_of line) session image.old bus.old storage.old }
-    ensures stores_value { result.stores ≡ apply_stores (word_of 0 (text_of line)) (text_of line) session.clock image.old bus.old storage.old }
+    ensures { (held_of result.session image.new bus.new storage.new, text_of result.said, text_of result.line) ≡ obey_turn (text_of line) session image.old bus.old storage.old }
 {
     let done = apply(line, session.clock, image, bus, storage);
     let clock = done.clock;
     let said = done.said;
-    let stores = done.stores;
     let later = Session {
         clock,
         left: steps_of(line),
@@ -141,7 +130,6 @@ fn obey(
         session: later,
         said,
         line,
-        stores,
     }
 }
 
@@ -149,13 +137,11 @@ fn dropped(session: Session, said: Line) -> Turned
     ensures session_value { result.session ≡ session }
     ensures said_value { text_of result.said ≡ text_of said }
     ensures line_value { text_of result.line ≡ [] }
-    ensures stores_value { result.stores ≡ no_stores }
 {
     Turned {
         session,
         said,
         line: Line::new(),
-        stores: Stores::none(),
     }
 }
 
@@ -169,8 +155,7 @@ pub fn turn(
     bus: &mut [u8],
     storage: &mut [u8],
 ) -> Turned
-    ensures line_after { (held_of result.session image.new bus.new storage.new, text_of result.said, text_of result.line) ≡ turn_of (text_of line) session image.old bus.old storage.old }
-    ensures stores_value { result.stores ≡ turn_stores (text_of line) session image.old bus.old storage.old }
+    ensures { (held_of result.session image.new bus.new storage.new, text_of result.said, text_of result.line) ≡ turn_of (text_of line) session image.old bus.old storage.old }
 {
     if session.left > 0 {
         return cycle(session, image, bus, storage);

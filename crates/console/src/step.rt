@@ -3,12 +3,11 @@ ghost use Rattle.std.specs.Prelude.{◌≡◌, if◌then◌else◌, nat_eq};
 ghost use Rattle.transfer.specs.Constants.{bus_size};
 ghost use Rattle.text.specs.Shown.{◌⊕◌, text_of};
 ghost use Rattle.lines.specs.Clock.{time_of};
-ghost use Rattle.console.specs.Step.{access_text, advanced, asked_of, ba_text, bytes_there, counted, cycle_line, cycle_of, either_of, go_of, grant_text, mark_if, marks_of, passed_text, refused_cycle, run_line, run_text, started, store_line, time_after};
+ghost use Rattle.console.specs.Step.{access_text, advanced, asked_of, ba_text, bytes_there, counted, cycle_line, cycle_of, either_of, go_of, grant_text, mark_if, marks_of, passed_text, refused_cycle, run_line, run_text, started, time_after};
 
 use lines::clock::Clock;
 use pane::answers::{REFUSAL_UNIT, is_accepted, refusal};
 use pane::rows::{copied, size_in, transfer_expansion};
-use regs::{RegisterStore, Stores};
 use text::bytes::byte;
 use text::line::Line;
 use transfer::Passed;
@@ -23,14 +22,13 @@ const NO_MARKS: Passed = Passed {
 };
 
 // What a cycle was granted, or that it was refused, the access to the bus that the controller had ready, the offset in the
-// storage, which address ran over its top, and the registers that it stored where it ended a command with Autoload.
+// storage, and which address ran over its top.
 #[derive(Drop)]
 pub struct Cycle {
     pub grant: u32,
     pub access: u32,
     pub offset: u32,
     pub passed: Passed,
-    pub stores: Stores,
 }
 
 // The two marks in a cycle's answer: its value has 2 and 4 more for them.
@@ -43,9 +41,9 @@ fn marks(answer: u32) -> Passed
     }
 }
 
-// The grant of the cycle that comes next, asked of a copy of the image; what passes a top and what is stored only the cycle itself
-// says. What the asking may write, the byte of a swap that is given up, the cycle writes again itself; a cycle that is `lent` a bus of
-// another length is refused and writes nothing, so nothing is asked.
+// The grant of the cycle that comes next, asked of a copy of the image; what passes a top only the cycle itself answers. What the
+// asking may write, the byte of a swap that is given up, the cycle writes again itself; a cycle that is `lent` a bus of another
+// length is refused and writes nothing, so nothing is asked.
 fn ask(inputs: u8, number: u64, image: &[u8], lent: usize, storage: &mut [u8]) -> Cycle
     ensures { (result, storage.new) ≡ (if nat_eq lent bus_size then asked_of inputs number image.now storage.old else refused_cycle 0, storage.old) }
 {
@@ -63,11 +61,10 @@ fn ask(inputs: u8, number: u64, image: &[u8], lent: usize, storage: &mut [u8]) -
         access,
         offset,
         passed: NO_MARKS,
-        stores: Stores::none(),
     }
 }
 
-// One that was refused made no access, and stored nothing.
+// One that was refused made no access.
 fn refused(answer: u32) -> Cycle
     ensures { result ≡ refused_cycle answer }
 {
@@ -76,11 +73,10 @@ fn refused(answer: u32) -> Cycle
         access: 0,
         offset: 0,
         passed: NO_MARKS,
-        stores: Stores::none(),
     }
 }
 
-// One bus cycle, with BA's three inputs as bits. Its stores are those that the library hands out.
+// One bus cycle, with BA's three inputs as bits.
 pub fn run_cycle(
     inputs: u8,
     number: u64,
@@ -94,16 +90,13 @@ pub fn run_cycle(
     let high = (inputs / 4 % 2) as u32;
     let phi1 = (inputs / 2 % 2) as u32;
     let low = (inputs % 2) as u32;
-    let logged = reu::logged_cycle(image, bus, storage, high, number, low, phi1);
-    let answer = logged.answer;
-    let stores = logged.stores;
+    let answer = reu::reu_run_reu_cycle(image, bus, storage, high, number, low, phi1);
     if is_accepted(answer) {
         return Cycle {
             grant: asked.grant,
             access: asked.access,
             offset: asked.offset,
             passed: marks(answer),
-            stores,
         };
     }
     refused(answer)
@@ -192,14 +185,6 @@ pub fn cycle_line(clock: Clock, done: Cycle, bus: &[u8], storage: &[u8]) -> Line
     granted
 }
 
-// A register that was stored, and the byte.
-pub fn store_line(store: RegisterStore) -> Line
-    ensures { text_of result ≡ store_line store }
-{
-    let at = 0xDF00 + (store.index as u32);
-    Line::new().hex4(at).text(b" stored ").hex2(store.value)
-}
-
 // The time after a cycle: one that was refused takes none.
 pub fn after(clock: Clock, grant: u32) -> Clock
     ensures { time_of result ≡ time_after (time_of clock) grant }
@@ -212,15 +197,13 @@ pub fn after(clock: Clock, grant: u32) -> Clock
 
 // ---- until the command ends
 
-// How far a run came, which address ran over its top in any of its cycles, and the stores of the last: a command that ended with
-// Autoload stored in its last cycle.
+// How far a run came, and which address ran over its top in any of its cycles.
 #[derive(Drop)]
 pub struct Run {
     pub clock: Clock,
     pub granted: u64,
     pub held: u64,
     pub passed: Passed,
-    pub stores: Stores,
 }
 
 fn either(one: Passed, other: Passed) -> Passed
@@ -238,7 +221,6 @@ fn count(run: Run, done: Cycle) -> Run
 {
     let clock = run.clock.next();
     let passed = either(run.passed, done.passed);
-    let stores = done.stores;
     if done.grant == TRANSFER {
         let granted = std::num::wrapping_add_u64(run.granted, 1);
         return Run {
@@ -246,7 +228,6 @@ fn count(run: Run, done: Cycle) -> Run
             granted,
             held: run.held,
             passed,
-            stores,
         };
     }
     if !is_accepted(done.grant) {
@@ -258,7 +239,6 @@ fn count(run: Run, done: Cycle) -> Run
         granted: run.granted,
         held,
         passed,
-        stores,
     }
 }
 
@@ -283,7 +263,6 @@ pub fn go(clock: Clock, limit: u32, image: &mut [u8], bus: &mut [u8], storage: &
         granted: 0,
         held: 0,
         passed: NO_MARKS,
-        stores: Stores::none(),
     };
     let mut left = limit;
     while left > 0 {

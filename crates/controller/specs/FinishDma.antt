@@ -1,9 +1,8 @@
 -- The visible counters, the interrupt, and the end of a command.
-use Rattle.controller.specs.Prelude.{Bool, ◌||◌, [], ◌∷◌, DmaState, Idle, Stores, Reu}
+use Rattle.controller.specs.Prelude.{Bool, ◌||◌, [], ◌∷◌, DmaState, Idle, Reu}
 use Rattle.transfer.specs.Constants.{interrupt}
 use Rattle.transfer.specs.Bytes.{ones}
 use Rattle.regs.specs.FinishDma.{irq_due, marked, counters, finished, autoloaded}
-use Rattle.regs.specs.Stores.{listed, made}
 use Rattle.controller.specs.Reu.{with_regs, with_irq, with_dma}
 
 -- evaluating only ever raises
@@ -14,14 +13,11 @@ update_irq u =
 unfoldable pub publish_live_counters : Reu → DmaState → Reu
 publish_live_counters u d = with_regs u (counters u.regs d.c64_addr.0 d.reu_addr.0 d.remaining)
 
--- "Finish: bit 6 if the block ended; COMMAND AND $7F OR $10; .. then the interrupt is evaluated"
-unfoldable pub finish_dma : Reu → Bool → Bool → Reu
-finish_dma u error ended = update_irq (with_dma (with_regs u (finished u.regs error ended)) Idle)
-
--- "with Autoload the seven .. registers come from the shadows"; L5: "each of registers 2 to 8 once, in that order, with its shadow's byte"
-abbrev pub autoload_stores : Reu → Bool → Stores
-autoload_stores u autoload = autoloaded autoload u.shadow_c64_addr u.shadow_reu_addr u.shadow_len
-
--- a controller with stores made on its registers
-unfoldable pub with_stores : Reu → Stores → Reu
-with_stores u x = with_regs u (made (listed x) u.regs)
+-- "Finish: bit 6 if the block ended; COMMAND AND $7F OR $10; with Autoload the seven .. registers come from the shadows; then the interrupt is evaluated"
+unfoldable pub finish_dma : Reu → DmaState → Bool → Reu
+finish_dma u d ended =
+    update_irq
+    (with_dma
+    (with_regs u
+    (autoloaded (finished u.regs ended) d.autoload u.shadow_c64_addr u.shadow_reu_addr u.shadow_len))
+    Idle)

@@ -23,7 +23,6 @@ pub use Rattle.transfer.specs.declared.timing.ReuC64Access.{ReuC64Access}
 pub use Rattle.transfer.specs.declared.timing.ReuC64Access.TheVariants.{None, Read, Write}
 pub use Rattle.transfer.specs.declared.timing.ReuBusAction.{ReuBusAction}
 pub use Rattle.transfer.specs.declared.timing.ReuBusAction.TheVariants.{Cpu, Hold, Transfer}
-pub use Rattle.regs.specs.declared.stores.Stores.{Stores}
 pub use Rattle.controller.specs.declared.reu.Reu.{Reu}
 pub use Rattle.controller.specs.declared.reu.ReadAnswer.{ReadAnswer}
 pub use Rattle.controller.specs.declared.reu.BusAnswer.{BusAnswer}

@@ -1,51 +1,36 @@
 -- `tick_dma`, one granted cycle of a transfer. It sees the two bytes at the transfer's place, and writes at most one byte.
-use Rattle.controller.specs.Prelude.{ℕ, Bool, true, false, not, ◌&&◌, ◌||◌, cond, List, eqb, Store, Recall, Swap, Verify, TransferType, SwapPhase, ReadC64, WriteC64, DmaState, Dma, Idle, Running, Seen, Put, Nothing, Bus, Storage, Passed, Stores, Reu, StepAnswer, TickAnswer}
-use Rattle.transfer.specs.Bytes.{bit}
-use Rattle.regs.specs.FinishDma.{mismatched}
-use Rattle.regs.specs.Stores.{no_stores}
+use Rattle.controller.specs.Prelude.{ℕ, Bool, true, false, not, ◌&&◌, ◌||◌, cond, List, [], ◌∷◌, eqb, Store, Recall, Swap, Verify, TransferType, SwapPhase, ReadC64, WriteC64, DmaState, Dma, Idle, Running, Seen, Put, Nothing, Bus, Storage, Passed, Reu, StepAnswer, TickAnswer}
+use Rattle.transfer.specs.Constants.{verify_error}
+use Rattle.transfer.specs.Bytes.{bit, ones}
+use Rattle.regs.specs.FinishDma.{marked}
 use Rattle.controller.specs.Reu.{with_regs, with_dma, with_release, with_refresh, with_repeat}
 use Rattle.transfer.specs.Dma.{with_odd, with_latch, with_tail, recalled, latched}
 use Rattle.transfer.specs.Memory.{put_bus, put_storage}
 use Rattle.transfer.specs.Dma.{is_type, moved, neither, passed, seen_by}
-use Rattle.controller.specs.FinishDma.{autoload_stores, publish_live_counters, finish_dma, with_stores}
+use Rattle.controller.specs.FinishDma.{publish_live_counters, finish_dma}
 
--- what a tick answers and reports, the controller but for the stores that it hands out, and what it writes
-abbrev pub reports : Bool → Passed → Stores → Reu → Put → TickAnswer
-reports flag p x u put = record { flag = flag; passed = p; stores = x; reu = u; put = put }
+-- what a tick answers and reports, the controller after it, and what it writes
+abbrev pub reports : Bool → Passed → Reu → Put → TickAnswer
+reports flag p u put = record { flag = flag; passed = p; reu = u; put = put }
 
--- L2: "a verify tail, a swap's first phase .. report neither", nor does any other tick that completes no byte. L5: a step that ends no
--- command "hands out none"
+-- L2: "a verify tail, a swap's first phase .. report neither", nor does any other tick that completes no byte
 abbrev pub quiet_tick : Bool → Reu → Put → TickAnswer
-quiet_tick flag u put = reports flag neither no_stores u put
+quiet_tick flag u put = reports flag neither u put
 
--- "Verify mismatch sets bit 5"
-abbrev pub with_error : Reu → Bool → Reu
-with_error u error = with_regs u (mismatched u.regs error)
-
--- a byte is done and the command goes on: the counters are shown as they moved
-abbrev pub goes_on : Passed → Reu → Bool → DmaState → Put → TickAnswer
-goes_on p u error next put =
-    reports true p no_stores (with_dma (publish_live_counters (with_error u error) next) (Running next)) put
-
--- the command ends, by Autoload or not
-abbrev pub ends : Passed → Reu → Bool → Bool → Bool → Put → TickAnswer
-ends p u autoload error ended put = reports false p (autoload_stores u autoload) (finish_dma u error ended) put
-
--- L5: with Autoload no live counter is stored: the end finds the registers as they were before the step. Without, they are shown
-abbrev pub shown_last : Reu → DmaState → Reu
-shown_last u next = cond next.autoload u (publish_live_counters u next)
-
--- a byte is done, and reports; the counters move. "Verify mismatch .. after the counters move, ends the command, unless it wasn't the last
--- byte and remaining is now 1. Then one more tick compares the last byte". The release flag: the block ended, of a swap, and `ba_low` is 0
+-- a byte is done, and reports; the counters move and are shown. "Verify mismatch .. after the counters move, ends the command, unless it
+-- wasn't the last byte and remaining is now 1. Then one more tick compares the last byte". The release flag: the block ended, of a swap,
+-- and `ba_low` is 0
 unfoldable pub advance : Reu → DmaState → Bool → Bool → Put → TickAnswer
 advance u d error low put =
     cond (error && (not (eqb d.remaining 1) && eqb (moved d).remaining 1))
-    (goes_on (passed d) u error (with_tail (moved d) true) put)
+    (reports true (passed d) (with_dma (publish_live_counters u (moved d)) (Running (with_tail (moved d) true))) put)
     (cond (eqb d.remaining 1 || error)
-    (ends (passed d)
-    (with_release (shown_last u (moved d)) (eqb d.remaining 1 && (is_type d.transfer_type Swap && not low)))
-    d.autoload error (eqb d.remaining 1) put)
-    (goes_on (passed d) u error (moved d) put))
+    (reports false (passed d)
+    (finish_dma
+    (with_release (publish_live_counters u (moved d)) (eqb d.remaining 1 && (is_type d.transfer_type Swap && not low)))
+    (moved d) (eqb d.remaining 1))
+    put)
+    (reports true (passed d) (with_dma (publish_live_counters u (moved d)) (Running (moved d))) put))
 
 -- a store: the C64's byte goes to the storage
 unfoldable pub tick_store : Reu → DmaState → Seen → Bool → TickAnswer
@@ -68,12 +53,15 @@ unfoldable pub tick_swap : SwapPhase → Reu → DmaState → Seen → ℕ → B
 tick_swap ReadC64 u d b cycle low = swap_read u d b cycle
 tick_swap WriteC64 u d b cycle low = swap_write u d low
 
--- a verify: the two bytes are compared
+-- "Verify mismatch sets bit 5"
 abbrev pub differs : Seen → Bool
 differs b = not (eqb b.bus b.storage)
 
+abbrev pub with_error : Reu → Bool → Reu
+with_error u error = with_regs u (marked u.regs (ones (verify_error ∷ [])) error)
+
 unfoldable pub tick_verify : Reu → DmaState → Seen → Bool → TickAnswer
-tick_verify u d b low = advance u d (differs b) low Nothing
+tick_verify u d b low = advance (with_error u (differs b)) d (differs b) low Nothing
 
 unfoldable pub tick_by_type : TransferType → Reu → DmaState → Seen → ℕ → Bool → TickAnswer
 tick_by_type Store u d b cycle low = tick_store u d b low
@@ -88,7 +76,7 @@ tick_refresh u d b cycle =
 
 -- the tail "sets bit 6 exactly if equal, and moves no counter"
 unfoldable pub tick_tail : Reu → DmaState → Seen → TickAnswer
-tick_tail u d b = ends neither u d.autoload false (not (differs b)) Nothing
+tick_tail u d b = quiet_tick false (finish_dma u d (not (differs b))) Nothing
 
 unfoldable pub tick_running : Reu → DmaState → Seen → ℕ → Bool → TickAnswer
 tick_running u d b cycle low =
@@ -106,17 +94,15 @@ tick_of (Running d) u b cycle low =
 abbrev pub Ticked : Type 0
 Ticked = StepAnswer × List ℕ × List ℕ
 
-abbrev pub ticked : Bool → Passed → Stores → Reu → StepAnswer
-ticked flag p x u = record { refusal = 0; flag = flag; passed = p; stores = x; reu = u }
+abbrev pub ticked : Bool → Passed → Reu → StepAnswer
+ticked flag p u = record { refusal = 0; flag = flag; passed = p; reu = u }
 
--- a step that reports neither and hands out no store: a refusal by its number, or one that ticks nothing
+-- a step that reports neither: a refusal by its number, or one that completes no byte
 abbrev pub quiet_step : ℕ → Bool → Reu → StepAnswer
-quiet_step n flag u = record { refusal = n; flag = flag; passed = neither; stores = no_stores; reu = u }
+quiet_step n flag u = record { refusal = n; flag = flag; passed = neither; reu = u }
 
--- the stores that the tick hands out are made, and so is its write
 abbrev pub landed : ℕ → TickAnswer → List ℕ → List ℕ → Ticked
-landed size t m s =
-    (ticked t.flag t.passed t.stores (with_stores t.reu t.stores), put_bus t.put m, put_storage size t.put s)
+landed size t m s = (ticked t.flag t.passed t.reu, put_bus t.put m, put_storage size t.put s)
 
 unfoldable pub tick_dma : Reu → List ℕ → List ℕ → ℕ → Bool → Ticked
 tick_dma u m s cycle low = landed u.size (tick_of u.dma u (seen_by u.size u.dma m s) cycle low) m s

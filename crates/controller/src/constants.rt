@@ -1,5 +1,4 @@
 // The numbers of a wait, of the count, of a lent bus, a new storage and a refusal.
-use transfer::Passed;
 
 // The longest wait of a swap's read.
 pub(crate) const LONGEST_READ_DELAY: u8 = 2;
@@ -24,9 +23,3 @@ pub(crate) const REFUSED_STORAGE: u8 = 4;
 pub(crate) const REFUSED_SIZE: u8 = 5;
 
 pub(crate) const REFUSED_ATTACHED: u8 = 6;
-
-// No address passed its top.
-pub(crate) const NEITHER: Passed = Passed {
-    c64: false,
-    expansion: false,
-};

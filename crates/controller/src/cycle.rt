@@ -4,7 +4,7 @@ ghost use Rattle.controller.specs.Calls.{step_call};
 ghost use Rattle.controller.specs.Cycle.{counted, cycle_by, run_reu_cycle};
 
 use crate::constants::{ACCEPTED, MOST_GRANTED};
-use crate::reu::{Parted, Reu, StepAnswer, Stepped};
+use crate::reu::{Reu, StepAnswer, Stepped};
 use transfer::ReuBusAction;
 
 impl Reu {
@@ -37,13 +37,11 @@ impl Reu {
             ReuBusAction::Transfer => {
                 let ticked = self.tick(bus, storage, cycle, ba_low);
                 let passed = ticked.passed;
-                let stores = ticked.stores;
                 let reu = ticked.reu;
                 StepAnswer {
                     refusal: ACCEPTED,
                     flag: true,
                     passed,
-                    stores,
                     reu: reu.counted(),
                 }
             }
@@ -69,31 +67,6 @@ impl Reu {
         put.to_storage(self.size, storage);
         reu.cycle_by(action, bus, storage, cycle, ba_low)
     }
-
-    // `run_reu_cycle`, with the answer apart from the controller.
-    fn parted_cycle(
-        self,
-        bus: &mut [u8],
-        storage: &mut [u8],
-        ba_high: bool,
-        ba_high_phi1: bool,
-        cycle: u64,
-        ba_low: bool,
-    ) -> Parted
-        ensures { (result.answer, result.reu, bus.new, storage.new) ≡ step_call self bus.old storage.old ba_high ba_high_phi1 cycle ba_low }
-    {
-        let done = self.run_reu_cycle(bus, storage, ba_high, ba_high_phi1, cycle, ba_low);
-        let passed = done.passed;
-        let stores = done.stores;
-        let reu = done.reu;
-        let answer = Stepped {
-            refusal: done.refusal,
-            flag: done.flag,
-            passed,
-            stores,
-        };
-        Parted { answer, reu }
-    }
 }
 
 // Advances a controller that the caller lends by one cycle: `Reu::run_reu_cycle` on a copy, stored back whole.
@@ -109,7 +82,11 @@ pub fn step(
     ensures { (result, reu.new, bus.new, storage.new) ≡ step_call reu.old bus.old storage.old ba_high ba_high_phi1 cycle ba_low }
 {
     let before = *reu;
-    let done = before.parted_cycle(bus, storage, ba_high, ba_high_phi1, cycle, ba_low);
+    let done = before.run_reu_cycle(bus, storage, ba_high, ba_high_phi1, cycle, ba_low);
     *reu = done.reu;
-    done.answer
+    Stepped {
+        refusal: done.refusal,
+        flag: done.flag,
+        passed: done.passed,
+    }
 }

@@ -1,9 +1,9 @@
 // The visible counters, the interrupt, and the end of a command.
 ghost use Rattle.std.specs.Prelude.{◌≡◌};
-ghost use Rattle.controller.specs.FinishDma.{autoload_stores, finish_dma, publish_live_counters, update_irq, with_stores};
+ghost use Rattle.controller.specs.FinishDma.{finish_dma, publish_live_counters, update_irq};
 
 use crate::reu::Reu;
-use regs::{STATUS_IRQ_PENDING, Stores, autoloaded, counters, finished, irq_due, marked};
+use regs::{STATUS_IRQ_PENDING, autoloaded, counters, finished, irq_due, marked};
 use transfer::{Dma, DmaState};
 
 impl Reu {
@@ -30,36 +30,21 @@ impl Reu {
         self
     }
 
-    // STATUS and COMMAND say that the command has ended. The seven registers that Autoload loads are left to its stores.
-    pub(crate) fn finish_dma(self, error: bool, completed: bool) -> Reu
-        ensures { result ≡ finish_dma self error completed }
+    pub(crate) fn finish_dma(self, dma: DmaState, completed: bool) -> Reu
+        ensures { result ≡ finish_dma self dma completed }
     {
         let idle = Dma::Idle;
         let regs = self.regs;
-        let shown = finished(regs, error, completed);
-        let mut reu = self.with_dma(idle);
-        reu.regs = shown;
-        reu.update_irq()
-    }
-
-    // The stores of a command's end: with Autoload the shadows' bytes.
-    pub(crate) fn autoload_stores(self, autoload: bool) -> Stores
-        ensures { result ≡ autoload_stores self autoload }
-    {
-        autoloaded(
-            autoload,
+        let ended = finished(regs, completed);
+        let shown = autoloaded(
+            ended,
+            dma.autoload,
             self.shadow_c64_addr,
             self.shadow_reu_addr,
             self.shadow_len,
-        )
-    }
-
-    pub(crate) fn with_stores(mut self, stores: Stores) -> Reu
-        ensures { result ≡ with_stores self stores }
-    {
-        let regs = self.regs;
-        let shown = stores.made(regs);
-        self.regs = shown;
-        self
+        );
+        let mut reu = self.with_dma(idle);
+        reu.regs = shown;
+        reu.update_irq()
     }
 }

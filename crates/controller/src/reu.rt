@@ -5,10 +5,10 @@ ghost use Rattle.controller.specs.Enable.{disabled, fresh, new_reu, reset_reu, s
 ghost use Rattle.controller.specs.TickDma.{quiet_step};
 ghost use Rattle.controller.specs.Calls.{answered, bus_action_call, c64_access_call, call, capacity, capacity_bytes_call, cpu_ready_call, cycle_call, debug_register_call, dma_active_call, numbered, read_call, refused, reset_call, set_enabled_call, set_size_call, storage_present_call, tick_call, trigger_call, write_call};
 
-use crate::constants::{ACCEPTED, BUS_BYTES, NEITHER, REU_1764_CAPACITY_BYTES};
+use crate::constants::{ACCEPTED, BUS_BYTES, REU_1764_CAPACITY_BYTES};
 use regs::{
     ADDRESS_CONTROL_UNUSED_READ_HIGH, BANK_UNUSED_READ_HIGH, COMMAND_FF00_DISABLE,
-    INTERRUPT_UNUSED_READ_HIGH, REGISTER_COUNT, STATUS, STATUS_VERSION, Stores,
+    INTERRUPT_UNUSED_READ_HIGH, REGISTER_COUNT, STATUS, STATUS_VERSION,
 };
 use transfer::{Dma, Passed, Put, ReuBusAction, chip_mark, clear};
 
@@ -59,13 +59,11 @@ pub struct FlagAnswer {
     pub reu: Reu,
 }
 
-// What a tick answers: whether the command goes on, which address ran over its top, the stores of a command's end with Autoload, the
-// controller with these still to be made, and what is written.
+// What a tick answers: whether the command goes on, which address ran over its top, the controller after it, and what is written.
 #[derive(Drop)]
 pub struct TickAnswer {
     pub flag: bool,
     pub passed: Passed,
-    pub stores: Stores,
     pub reu: Reu,
     pub put: Put,
 }
@@ -79,14 +77,12 @@ pub struct Answer {
 }
 
 // What a tick and a cycle answer: the refusal number, 0 if it is accepted, whether the command goes on or, of a cycle, whether the
-// processor is held, which address ran over its top, which registers the end of a command with Autoload has stored, and the controller
-// after it.
+// processor is held, which address ran over its top, and the controller after it.
 #[derive(Drop)]
 pub struct StepAnswer {
     pub refusal: u8,
     pub flag: bool,
     pub passed: Passed,
-    pub stores: Stores,
     pub reu: Reu,
 }
 
@@ -96,14 +92,6 @@ pub struct Stepped {
     pub refusal: u8,
     pub flag: bool,
     pub passed: Passed,
-    pub stores: Stores,
-}
-
-// That answer, and the controller beside it.
-#[derive(Drop)]
-pub struct Parted {
-    pub answer: Stepped,
-    pub reu: Reu,
 }
 
 // A STATUS byte with the mark of a size.
@@ -243,15 +231,18 @@ impl Reu {
         }
     }
 
-    // A tick or a cycle that is refused, or that ticks nothing: it reports neither, and has stored nothing.
+    // A tick or a cycle that is refused, or that completes no byte: it reports neither.
     pub(crate) fn quiet_step(self, refusal: u8, flag: bool) -> StepAnswer
         ensures { result ≡ quiet_step refusal flag self }
     {
+        let passed = Passed {
+            c64: false,
+            expansion: false,
+        };
         StepAnswer {
             refusal,
             flag,
-            passed: NEITHER,
-            stores: Stores::none(),
+            passed,
             reu: self,
         }
     }

@@ -1,69 +1,14 @@
-// One granted cycle of a transfer. A tick sees the two bytes at the transfer's place, and says what it writes and, where it ends a command
-// with Autoload, which registers it stores.
+// One granted cycle of a transfer. A tick sees the two bytes at the transfer's place, and says what it writes.
 ghost use Rattle.std.specs.Prelude.{◌≡◌};
-ghost use Rattle.controller.specs.TickDma.{advance, ends, goes_on, shown_last, swap_read, swap_write, tick_by_type, tick_dma, tick_of, tick_recall, tick_refresh, tick_running, tick_store, tick_swap, tick_tail, tick_verify, quiet_tick, with_error};
+ghost use Rattle.controller.specs.TickDma.{advance, swap_read, swap_write, tick_by_type, tick_dma, tick_of, tick_recall, tick_refresh, tick_running, tick_store, tick_swap, tick_tail, tick_verify, quiet_tick, with_error};
 
-use crate::constants::{ACCEPTED, NEITHER};
+use crate::constants::ACCEPTED;
 use crate::reu::{Reu, StepAnswer, TickAnswer};
-use regs::{Stores, mismatched};
+use regs::{STATUS_VERIFY_ERROR, marked};
 use transfer::{Dma, DmaState, Passed, Put, Seen, SwapPhase, TransferType};
 
 impl Reu {
-    fn with_error(mut self, error: bool) -> Reu
-        ensures { result ≡ with_error self error }
-    {
-        let regs = self.regs;
-        let shown = mismatched(regs, error);
-        self.regs = shown;
-        self
-    }
-
-    // A byte is done, and the command goes on.
-    fn goes_on(self, passed: Passed, error: bool, next: DmaState, put: Put) -> TickAnswer
-        ensures { result ≡ goes_on passed self error next put }
-    {
-        let shown = self.with_error(error).publish_live_counters(next);
-        TickAnswer {
-            flag: true,
-            passed,
-            stores: Stores::none(),
-            reu: shown.running(next),
-            put,
-        }
-    }
-
-    // A command ends. With Autoload `self` has the registers as they were before the step: whoever makes the stores that are
-    // handed out makes them on these.
-    fn ends(
-        self,
-        passed: Passed,
-        autoload: bool,
-        error: bool,
-        completed: bool,
-        put: Put,
-    ) -> TickAnswer
-        ensures { result ≡ ends passed self autoload error completed put }
-    {
-        TickAnswer {
-            flag: false,
-            passed,
-            stores: self.autoload_stores(autoload),
-            reu: self.finish_dma(error, completed),
-            put,
-        }
-    }
-
-    // What the end of a command finds: with Autoload no live counter is stored.
-    fn shown_last(self, next: DmaState) -> Reu
-        ensures { result ≡ shown_last self next }
-    {
-        if next.autoload {
-            return self;
-        }
-        self.publish_live_counters(next)
-    }
-
-    // A byte is done, with what was written for it: the counters move.
+    // A byte is done, with what was written for it: the counters move and are shown.
     fn advance(self, d: DmaState, error: bool, ba_low: bool, put: Put) -> TickAnswer
         ensures { result ≡ advance self d error ba_low put }
     {
@@ -74,25 +19,47 @@ impl Reu {
         let done = completed.done;
         let passed = completed.passed;
         let next = completed.dma;
+        let shown = self.publish_live_counters(next);
         if error & (!done & (next.remaining == 1)) {
-            return self.goes_on(passed, error, next.with_tail(), put);
+            let reu = shown.running(next.with_tail());
+            return TickAnswer {
+                flag: true,
+                passed,
+                reu,
+                put,
+            };
         }
         if done | error {
-            let mut last = self.shown_last(next);
+            let mut last = shown;
             last.swap_release_pending = done & (swaps & !ba_low);
-            return last.ends(passed, d.autoload, error, done, put);
+            let reu = last.finish_dma(next, done);
+            return TickAnswer {
+                flag: false,
+                passed,
+                reu,
+                put,
+            };
         }
-        self.goes_on(passed, error, next, put)
+        let reu = shown.running(next);
+        TickAnswer {
+            flag: true,
+            passed,
+            reu,
+            put,
+        }
     }
 
     // A tick that completes no byte, and so reports neither.
     fn quiet_tick(self, flag: bool, put: Put) -> TickAnswer
         ensures { result ≡ quiet_tick flag self put }
     {
+        let passed = Passed {
+            c64: false,
+            expansion: false,
+        };
         TickAnswer {
             flag,
-            passed: NEITHER,
-            stores: Stores::none(),
+            passed,
             reu: self,
             put,
         }
@@ -151,12 +118,22 @@ impl Reu {
         }
     }
 
+    fn with_error(mut self, error: bool) -> Reu
+        ensures { result ≡ with_error self error }
+    {
+        let regs = self.regs;
+        let shown = marked(regs, STATUS_VERIFY_ERROR, error);
+        self.regs = shown;
+        self
+    }
+
     fn tick_verify(self, d: DmaState, seen: Seen, ba_low: bool) -> TickAnswer
         ensures { result ≡ tick_verify self d seen ba_low }
     {
         let error = seen.bus != seen.storage;
         let put = Put::Nothing;
-        self.advance(d, error, ba_low, put)
+        let reu = self.with_error(error);
+        reu.advance(d, error, ba_low, put)
     }
 
     fn tick_refresh(self, d: DmaState, seen: Seen, cycle: u64) -> TickAnswer
@@ -176,7 +153,7 @@ impl Reu {
     {
         let error = seen.bus != seen.storage;
         let put = Put::Nothing;
-        self.ends(NEITHER, d.autoload, false, !error, put)
+        self.finish_dma(d, !error).quiet_tick(false, put)
     }
 
     fn tick_by_type(
@@ -243,7 +220,6 @@ impl Reu {
         let ticked = self.tick_of(dma, seen, cycle, ba_low);
         let put = ticked.put;
         let passed = ticked.passed;
-        let stores = ticked.stores;
         let reu = ticked.reu;
         put.to_bus(bus);
         put.to_storage(self.size, storage);
@@ -251,8 +227,7 @@ impl Reu {
             refusal: ACCEPTED,
             flag: ticked.flag,
             passed,
-            stores,
-            reu: reu.with_stores(stores),
+            reu,
         }
     }
 }

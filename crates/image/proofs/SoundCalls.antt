@@ -1,7 +1,7 @@
 -- Each call keeps a controller sound, and what it writes to the bus or the storage is a byte.
 use Prim.Native.Nat.{ℕ, zero, suc, ◌+◌, ◌-◌, ◌<◌, ◌≤◌}
 use mathlib.Core.Bool.{Bool, true, false, cond, not, ◌&&◌, ◌||◌}
-use mathlib.Core.Path.{◌≡◌, refl, sym, ap, subst, ◌∙◌}
+use mathlib.Core.Path.{◌≡◌, refl, ap, ◌∙◌}
 use mathlib.Core.List.{List}
 use lib.Bits.{bit_and, bit_or, or_lt}
 use lib.ListN.{length, get_or, set, replicate}
@@ -13,7 +13,6 @@ use Rattle.controller.specs.declared.reu.ReadAnswer.{ReadAnswer}
 use Rattle.controller.specs.declared.reu.BusAnswer.{BusAnswer}
 use Rattle.controller.specs.declared.reu.TickAnswer.{TickAnswer}
 use Rattle.transfer.specs.declared.dma.DmaState.{DmaState}
-use Rattle.transfer.specs.declared.dma.Passed.{Passed}
 use Rattle.transfer.specs.declared.dma.Dma.{Dma}
 use Rattle.transfer.specs.declared.dma.Dma.TheVariants.{Idle, Running}
 use Rattle.transfer.specs.declared.dma.TransferType.{TransferType}
@@ -35,17 +34,15 @@ use Rattle.controller.specs.Registers.{read_register, write_register, write_comm
 use Rattle.transfer.specs.Memory.{is_size, next_c64, next_exp, put_bus, put_storage, zeros}
 use Rattle.controller.specs.Timing.{c64_access}
 use Rattle.transfer.specs.Timing.{reads, writes}
-use Rattle.transfer.specs.Dma.{is_type, length_of, moved, neither, passed, recalled, is_first_byte, is_last_byte}
+use Rattle.transfer.specs.Dma.{is_type, length_of, moved, recalled, is_first_byte, is_last_byte}
 use Rattle.regs.specs.StartDma.{requested}
 use Rattle.controller.specs.StartDma.{start_dma, trigger_ff00}
-use Rattle.regs.specs.declared.stores.Stores.{Stores}
-use Rattle.regs.specs.Stores.{listed, made, no_stores}
 use Rattle.regs.specs.FinishDma.{irq_due, finished_command, autoloaded, finished}
-use Rattle.controller.specs.FinishDma.{update_irq, publish_live_counters, finish_dma, with_stores}
+use Rattle.controller.specs.FinishDma.{update_irq, publish_live_counters, finish_dma}
 use Rattle.controller.specs.Enable.{fresh, new_reu, set_size, set_enabled}
 use Rattle.controller.specs.BusAction.{repeated, plain, fall_on_read, fall_on_swap_write, fall_on_write, fall, decide, resumed, next_action, bus_action}
 use Rattle.transfer.specs.Timing.{read_again, restored, resumes, swap_reads, swap_writes}
-use Rattle.controller.specs.TickDma.{advance, ends, shown_last, tick_store, tick_recall, swap_read, swap_write, tick_swap, differs, with_error, tick_verify, tick_by_type, tick_refresh, tick_tail, tick_running, tick_of, tick_dma}
+use Rattle.controller.specs.TickDma.{advance, tick_store, tick_recall, swap_read, swap_write, tick_swap, differs, with_error, tick_verify, tick_by_type, tick_refresh, tick_tail, tick_running, tick_of, tick_dma}
 use Rattle.transfer.specs.Dma.{seen_by}
 use Rattle.controller.specs.Cycle.{counted, most_granted, cycle_by, run_reu_cycle}
 use Rattle.transfer.proofs.Pick.{by-test, fst, snd}
@@ -171,21 +168,12 @@ pub record SoundGrant (g : BusAnswer) : Type 0 where
 grant : {g : BusAnswer} → Sound g.reu → FitsPut g.put → SoundGrant g
 grant s p = record { sound = s; put = p }
 
--- stores that keep registers sound
-abbrev FitsStores : Stores → Type 0
-FitsStores x = (k : Bool) (l : List ℕ) → SoundRegs k l → SoundRegs k (made (listed x) l)
-
 record SoundTick (t : TickAnswer) : Type 0 where
   sound : Sound t.reu
-  stores : FitsStores t.stores
   put : FitsPut t.put
 
-no_stores_lem : FitsStores no_stores
-no_stores_lem k l r = r
-
--- a tick that ends no command
-tick : {t : TickAnswer} → t.stores ≡ no_stores → Sound t.reu → FitsPut t.put → SoundTick t
-tick e s p = record { sound = s; stores = subst FitsStores (sym e) no_stores_lem; put = p }
+tick : {t : TickAnswer} → Sound t.reu → FitsPut t.put → SoundTick t
+tick s p = record { sound = s; put = p }
 
 again : (a : Bool) (d : Dma) → SoundDma a d → SoundDma a (read_again d) × FitsPut (restored d)
 again a Idle h = (tt, tt)
@@ -232,31 +220,24 @@ sound_publish : (u : Reu) (d : DmaState) → Sound u → Sound (publish_live_cou
 unfolding publish_live_counters
 sound_publish u d s = with_regs_lem s (count_all d.c64_addr.0 d.reu_addr.0 d.remaining s.regs)
 
-autoload_fits : (b : Bool) (c e n : ℕ) → FitsStores (autoloaded b c e n)
-autoload_fits true c e n k l r = count_all c e n r
-autoload_fits false c e n k l r = r
+autoloaded_regs : {k : Bool} (b : Bool) (c e n : ℕ) {l : List ℕ} → SoundRegs k l → SoundRegs k (autoloaded l b c e n)
+autoloaded_regs {k} b c e n r = by-test (SoundRegs k) b _ _ (λ _. count_all c e n r) (λ _. r)
 
 finished_command_lem : {k : Bool} (l : List ℕ) → SoundRegs k l → SoundRegs k (finished_command l)
 finished_command_lem l r =
     store 1 r
     (plain_fits 1 refl (or_lt 8 (bit_and (get_or l 1 0) 127) 16 (and_byte (get_or l 1 0) 127 (r.fits 1).byte) (omega arith)))
 
-sound_error : (u : Reu) (error : Bool) → Sound u → Sound (with_error u error)
-sound_error u error s = with_regs_lem s (raise 32 (omega arith) error s.regs)
-
-sound_finish : (u : Reu) (error done : Bool) → Sound u → Sound (finish_dma u error done)
+sound_finish : (u : Reu) (d : DmaState) (done : Bool) → Sound u → Sound (finish_dma u d done)
 unfolding finish_dma
-sound_finish u error done s =
-    sound_irq (with_dma (with_regs u (finished u.regs error done)) Idle)
-    (with_dma_lem (with_regs_lem s (finished_command_lem _ (raise 64 (omega arith) done (sound_error u error s).regs))) tt)
-
-sound_ends : (p : Passed) (u : Reu) (autoload error done : Bool) (put : Put) → Sound u → FitsPut put → SoundTick (ends p u autoload error done put)
-sound_ends p u autoload error done put s f =
-    record {
-      sound = sound_finish u error done s;
-      stores = autoload_fits autoload u.shadow_c64_addr u.shadow_reu_addr u.shadow_len;
-      put = f;
-    }
+sound_finish u d done s =
+    let l : List ℕ = autoloaded (finished u.regs done) d.autoload u.shadow_c64_addr u.shadow_reu_addr u.shadow_len in
+    sound_irq (with_dma (with_regs u l) Idle)
+    (with_dma_lem
+    (with_regs_lem s
+    (autoloaded_regs d.autoload u.shadow_c64_addr u.shadow_reu_addr u.shadow_len
+    (finished_command_lem _ (raise 64 (omega arith) done s.regs))))
+    tt)
 
 sound_moved : (att : Bool) (d : DmaState) → SoundTransfer att d → d.verify_tail ≡ false → SoundTransfer att (moved d)
 sound_moved att d h e =
@@ -279,18 +260,16 @@ sound_advance : (u : Reu) (d : DmaState) (error low : Bool) (put : Put) → Soun
 unfolding advance publish_live_counters
 sound_advance u d error low put s h e v p =
     let mv = sound_moved u.attached d h e in
-    let pu = sound_publish (with_error u error) (moved d) (sound_error u error s) in
-    let last = by-test Sound d.autoload u (publish_live_counters u (moved d)) (λ _. s) (λ _. sound_publish u (moved d) s) in
+    let pu = sound_publish u (moved d) s in
     let left = (moved d).remaining in
     by-test SoundTick (error && (not (eqb d.remaining 1) && eqb left 1)) _ _
     (λ q.
     let now = snd error (not (eqb d.remaining 1) && eqb left 1) q in
     let of-verify = v (fst error (not (eqb d.remaining 1) && eqb left 1) q) in
-    tick refl (with_dma_lem pu (with_step_lem mv mv.latch refl (ap (λ (b : Bool). b && eqb left 1) of-verify ∙ snd (not (eqb d.remaining 1)) (eqb left 1) now))) p)
+    tick (with_dma_lem pu (with_step_lem mv mv.latch refl (ap (λ (b : Bool). b && eqb left 1) of-verify ∙ snd (not (eqb d.remaining 1)) (eqb left 1) now))) p)
     (λ _. by-test SoundTick (eqb d.remaining 1 || error) _ _
-    (λ _. sound_ends (passed d) (with_release (shown_last u (moved d)) (eqb d.remaining 1 && (is_type d.transfer_type Swap && not low)))
-    d.autoload error (eqb d.remaining 1) put last p)
-    (λ _. tick refl (with_dma_lem pu mv) p))
+    (λ _. tick (sound_finish (with_release (publish_live_counters u (moved d)) (eqb d.remaining 1 && (is_type d.transfer_type Swap && not low))) (moved d) (eqb d.remaining 1) pu) p)
+    (λ _. tick (with_dma_lem pu mv) p))
 
 never : {A : Type 0} → false ≡ true → A
 never e = absurd (let z : ◌≡◌ {A = ℕ} 0 1 = cc in omega arith)
@@ -299,7 +278,7 @@ module _ (u : Reu) (d : DmaState) (b : Seen) (s : Sound u) (h : SoundTransfer u.
   module _ (e : d.verify_tail ≡ false) (cycle : ℕ) (low : Bool) where
     sound_by_phase : (p : SwapPhase) → d.transfer_type ≡ Swap → SoundTick (tick_swap p u d b cycle low)
     unfolding tick_swap swap_read swap_write
-    sound_by_phase ReadC64 et = tick refl (with_dma_lem s (with_step_lem h see.1 (ap (λ (t : TransferType). is_type t Swap) et) h.tail)) see.0
+    sound_by_phase ReadC64 et = tick (with_dma_lem s (with_step_lem h see.1 (ap (λ (t : TransferType). is_type t Swap) et) h.tail)) see.0
     sound_by_phase WriteC64 et = sound_advance u d false low _ s h e never h.latch
 
     sound_by_type : (t : TransferType) → d.transfer_type ≡ t → SoundTick (tick_by_type t u d b cycle low)
@@ -311,20 +290,21 @@ module _ (u : Reu) (d : DmaState) (b : Seen) (s : Sound u) (h : SoundTransfer u.
         sound_advance (with_repeat u (u.recall_repeat && d.first_byte)) (with_latch d (recalled d u.recall_repeat b)) false low _ s (with_step_lem h v h.phase h.tail) e never v
     sound_by_type Swap et = sound_by_phase d.swap_phase et
     sound_by_type Verify et =
-        sound_advance u d (differs b) low Nothing s h e (λ _. ap (λ (t : TransferType). is_type t Verify) et) tt
+        sound_advance (with_error u (differs b)) d (differs b) low Nothing (with_regs_lem s (raise 32 (omega arith) (differs b) s.regs)) h e
+        (λ _. ap (λ (t : TransferType). is_type t Verify) et) tt
 
   sound_running : (cycle : ℕ) (low : Bool) → SoundTick (tick_running u d b cycle low)
   unfolding tick_running tick_refresh tick_tail
   sound_running cycle low =
-      by-test SoundTick u.swap_refresh _ _ (λ _. tick refl (with_dma_lem s h) see.0)
-      (λ _. by-test SoundTick d.verify_tail _ _ (λ _. sound_ends neither u d.autoload false (not (differs b)) Nothing s tt)
+      by-test SoundTick u.swap_refresh _ _ (λ _. tick (with_dma_lem s h) see.0)
+      (λ _. by-test SoundTick d.verify_tail _ _ (λ _. tick (sound_finish u d (not (differs b)) s) tt)
       (λ e. sound_by_type e cycle low d.transfer_type refl))
 
 sound_of_dma : (x : Dma) (u : Reu) (b : Seen) (cycle : ℕ) (low : Bool) → Sound u → SoundDma u.attached x → FitsSeen b → SoundTick (tick_of x u b cycle low)
 unfolding tick_of
-sound_of_dma Idle u b cycle low s h see = tick refl s tt
+sound_of_dma Idle u b cycle low s h see = tick s tt
 sound_of_dma (Running d) u b cycle low s h see =
-    by-test SoundTick u.attached _ _ (λ _. sound_running u d b s h see cycle low) (λ _. tick refl (with_dma_lem s tt) tt)
+    by-test SoundTick u.attached _ _ (λ _. sound_running u d b s h see cycle low) (λ _. tick (with_dma_lem s tt) tt)
 
 -- ---- on a bus and a storage
 
@@ -394,12 +374,12 @@ module _ (P Q : List ℕ → Type 0) (p : Memory P) (q : Memory Q) where
 
     pub sound_tick_dma : (cycle : ℕ) (low : Bool)
         → SoundState P Q (tick_dma u m s cycle low).0.reu (tick_dma u m s cycle low).1 (tick_dma u m s cycle low).2
-    unfolding tick_dma with_stores
+    unfolding tick_dma
     sound_tick_dma cycle low =
         let b = seen_by u.size u.dma m s in
         let t = tick_of u.dma u b cycle low in
         let g = sound_of_dma u.dma u b cycle low h.sound h.sound.dma (seen_fits u.size u.dma m s h.bus h.storage) in
-        record { sound = with_regs_lem g.sound (g.stores _ _ g.sound.regs); bus = put_bus_lem t.put m g.put h.bus; storage = put_storage_lem u.size t.put s g.put h.storage }
+        record { sound = g.sound; bus = put_bus_lem t.put m g.put h.bus; storage = put_storage_lem u.size t.put s g.put h.storage }
 
   cycle_by_lem : (a : ReuBusAction) (u : Reu) (m s : List ℕ) (cycle : ℕ) (low : Bool) → SoundState P Q u m s
       → SoundState P Q (cycle_by a u m s cycle low).0.reu (cycle_by a u m s cycle low).1 (cycle_by a u m s cycle low).2

@@ -1,9 +1,7 @@
 // Lines to standard output.
-use console::step::store_line;
 use lines::beside::{BEFORE, EVERY, beside, mark};
 use lines::memory::{address_of, bytes_line, end_of};
 use pane::rows::{ROWS, row};
-use regs::Stores;
 use text::line::{Line, first};
 
 pub(crate) fn tell(text: &[u8]) {
@@ -20,15 +18,6 @@ pub(crate) fn say(line: Line) {
 pub(crate) fn say_any(line: Line) {
     if !line.is_empty() {
         say(line);
-    }
-}
-
-// The registers that were stored, one line each, in their order.
-pub(crate) fn say_stores(stores: Stores) {
-    let len = stores.len();
-    for i in 0..len {
-        let next = stores.seven[i];
-        say(store_line(next));
     }
 }
 

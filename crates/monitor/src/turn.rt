@@ -1,8 +1,8 @@
-// A turn: a line is read, what the turn says and stores is shown, and so are the rows of the pane that it changed.
+// A turn: a line is read, what the turn says is shown, and so are the rows of the pane that it changed.
 use crate::files;
 use crate::help::help;
 use crate::input::{Input, read_line};
-use crate::output::{say, say_any, say_stores, show_bytes, show_changes, show_pane, tell};
+use crate::output::{say, say_any, show_bytes, show_changes, show_pane, tell};
 use console::session;
 use console::session::{Session, Turned};
 use lines::commands::{is_change, place};
@@ -99,7 +99,6 @@ pub(crate) fn turn(
     let done = take_turn(session, input.line, image, bus, storage);
     let line = done.line;
     say_any(done.said);
-    say_stores(done.stores);
     perform(line, terminal.colour, image, bus, storage);
     let changed = show_changes(image, &before, terminal.colour);
     if !changed & is_change(line) {

@@ -1,9 +1,8 @@
 -- The visible counters, the interrupt, and what the end of a command leaves in the registers.
-use Rattle.regs.specs.Prelude.{ℕ, Bool, cond, ◌&&◌, ◌||◌, List, [], ◌∷◌, bit_or, set, Stores}
-use Rattle.transfer.specs.Constants.{status, command, interrupt_mask, verify_error, end_of_block, without_ff00, execute, enable_all}
-use Rattle.transfer.specs.Bytes.{bit, ones, set_bits, clear_bits}
+use Rattle.regs.specs.Prelude.{ℕ, Bool, cond, ◌&&◌, ◌||◌, List, [], ◌∷◌, bit_or, set}
+use Rattle.transfer.specs.Constants.{status, command, c64_low, c64_high, exp_low, exp_high, exp_bank, length_low, length_high, interrupt_mask, verify_error, end_of_block, without_ff00, execute, enable_all}
+use Rattle.transfer.specs.Bytes.{bit, ones, set_bits, clear_bits, low_byte, high_byte, bank_byte}
 use Rattle.regs.specs.Registers.{held}
-use Rattle.regs.specs.Stores.{all_stored, counter_stores, made, no_stores}
 
 -- an event is enabled, and so are all: "Mask bits 5, 6, 7 enable verify, end of block, all"
 abbrev pub irq_due : List ℕ → Bool
@@ -18,11 +17,9 @@ marked l bits event = cond event (set l status (bit_or (held l status) bits)) l
 
 -- "the seven address and length registers" from two addresses and a length
 abbrev pub counters : List ℕ → ℕ → ℕ → ℕ → List ℕ
-counters l c e n = made (counter_stores c e n) l
-
--- "Verify mismatch sets bit 5"
-abbrev pub mismatched : List ℕ → Bool → List ℕ
-mismatched l error = marked l (ones (verify_error ∷ [])) error
+counters l c e n =
+    set (set (set (set (set (set (set l c64_low (low_byte c)) c64_high (high_byte c)) exp_low (low_byte e)) exp_high (high_byte e))
+    exp_bank (bank_byte e)) length_low (low_byte n)) length_high (high_byte n)
 
 -- "Finish: bit 6 if the block ended; COMMAND AND $7F OR $10"
 abbrev pub finished_status : List ℕ → Bool → List ℕ
@@ -31,9 +28,9 @@ finished_status l ended = marked l (ones (end_of_block ∷ [])) ended
 abbrev pub finished_command : List ℕ → List ℕ
 finished_command l = set l command (set_bits (without_ff00 ∷ []) (clear_bits (execute ∷ []) (held l command)))
 
-abbrev pub finished : List ℕ → Bool → Bool → List ℕ
-finished l error ended = finished_command (finished_status (mismatched l error) ended)
+abbrev pub finished : List ℕ → Bool → List ℕ
+finished l ended = finished_command (finished_status l ended)
 
--- "with Autoload the seven .. registers come from the shadows", here c, e and n; L5: "any other step hands out none"
-abbrev pub autoloaded : Bool → ℕ → ℕ → ℕ → Stores
-autoloaded autoload c e n = cond autoload (all_stored (counter_stores c e n)) no_stores
+-- "with Autoload the seven .. registers come from the shadows": here c, e and n
+abbrev pub autoloaded : List ℕ → Bool → ℕ → ℕ → ℕ → List ℕ
+autoloaded l autoload c e n = cond autoload (counters l c e n) l

@@ -3,8 +3,6 @@ pub use Rattle.std.specs.Prelude.{Bool, true, false, List, [], ◌∷◌, ℕ}
 unfoldable pub use Rattle.std.proofs.Math.Bool.{◌&&◌, ◌||◌, cond}
 unfoldable pub use Rattle.std.specs.Int.Bits.{bit_and, bit_or}
 unfoldable pub use Rattle.std.proofs.Math.Dec.{eqb}
-unfoldable pub use Rattle.std.proofs.Math.ListN.{get_or, set, take, replicate}
+unfoldable pub use Rattle.std.proofs.Math.ListN.{get_or, set}
 pub use Rattle.transfer.specs.declared.dma.SwapPhase.TheVariants.{ReadC64}
 pub use Rattle.transfer.specs.declared.dma.DmaState.{DmaState}
-pub use Rattle.regs.specs.declared.stores.RegisterStore.{RegisterStore}
-pub use Rattle.regs.specs.declared.stores.Stores.{Stores}

@@ -1,6 +1,6 @@
 // The visible counters, the interrupt, and what the end of a command leaves.
 ghost use Rattle.std.specs.Prelude.{◌≡◌};
-ghost use Rattle.regs.specs.FinishDma.{autoloaded, counters, finished, irq_due, marked, mismatched};
+ghost use Rattle.regs.specs.FinishDma.{autoloaded, counters, finished, irq_due, marked};
 
 use crate::constants::{
     C64_ADDRESS_HIGH, C64_ADDRESS_LOW, COMMAND, COMMAND_COMPLETION_MASK, COMMAND_FF00_DISABLE,
@@ -8,7 +8,6 @@ use crate::constants::{
     INTERRUPT_VERIFY_ENABLE, REGISTER_COUNT, REU_ADDRESS_BANK, REU_ADDRESS_HIGH, REU_ADDRESS_LOW,
     STATUS, STATUS_END_OF_BLOCK, STATUS_VERIFY_ERROR, TRANSFER_LENGTH_HIGH, TRANSFER_LENGTH_LOW,
 };
-use crate::stores::Stores;
 
 pub fn irq_due(regs: [u8; REGISTER_COUNT]) -> bool
     ensures { result ≡ irq_due regs }
@@ -51,29 +50,28 @@ pub fn counters(
     regs
 }
 
-// A verify error in STATUS.
-pub fn mismatched(regs: [u8; REGISTER_COUNT], error: bool) -> [u8; REGISTER_COUNT]
-    ensures { result ≡ mismatched regs error }
-{
-    marked(regs, STATUS_VERIFY_ERROR, error)
-}
-
 // STATUS and COMMAND at the end of a command.
-pub fn finished(regs: [u8; REGISTER_COUNT], error: bool, completed: bool) -> [u8; REGISTER_COUNT]
-    ensures { result ≡ finished regs error completed }
+pub fn finished(regs: [u8; REGISTER_COUNT], completed: bool) -> [u8; REGISTER_COUNT]
+    ensures { result ≡ finished regs completed }
 {
-    let mut ended = marked(mismatched(regs, error), STATUS_END_OF_BLOCK, completed);
+    let mut ended = marked(regs, STATUS_END_OF_BLOCK, completed);
     let command = ended[COMMAND];
     ended[COMMAND] = (command & COMMAND_COMPLETION_MASK) | COMMAND_FF00_DISABLE;
     ended
 }
 
-// With Autoload registers 2 to 8 are stored from the shadows. What is stored is said here, and made by who asks.
-pub fn autoloaded(autoload: bool, c64: u16, expansion: u32, length: u16) -> Stores
-    ensures { result ≡ autoloaded autoload c64 expansion length }
+// With Autoload the counters come from the shadows.
+pub fn autoloaded(
+    regs: [u8; REGISTER_COUNT],
+    autoload: bool,
+    c64: u16,
+    expansion: u32,
+    length: u16,
+) -> [u8; REGISTER_COUNT]
+    ensures { result ≡ autoloaded regs autoload c64 expansion length }
 {
     if autoload {
-        return Stores::all(c64, expansion, length);
+        return counters(regs, c64, expansion, length as u32);
     }
-    Stores::none()
+    regs
 }

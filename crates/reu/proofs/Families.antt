@@ -1,11 +1,10 @@
 -- What a call of each family is, by what opening the image gave: o.
-use mathlib.Core.Path.{◌≡◌, refl, sym, ap, ◌∙◌, subst}
+use mathlib.Core.Path.{◌≡◌, sym, ap, ◌∙◌, subst}
 use mathlib.Core.List.{List}
 use Prim.Native.Nat.{ℕ}
 use lib.ListN.{length, get_or}
 use mir.Syntax.{w8}
 use mir.Val.{Fits}
-use Rattle.regs.specs.Stores.{no_stores}
 use Rattle.controller.specs.declared.reu.Answer.{Answer}
 use Rattle.controller.specs.declared.reu.Reu.{Reu}
 use Rattle.controller.specs.declared.reu.StepAnswer.{StepAnswer}
@@ -21,7 +20,6 @@ use Rattle.image.proofs.Opening.{opened_long, opened_is}
 use Rattle.image.proofs.Sound.{Sound}
 use Rattle.image.proofs.Valid.{open_sound}
 use Rattle.reu.specs.Exports.{refusal, code, changed, changed_storage, changed_both, look, change, change_storage, change_both}
-use Rattle.reu.specs.Logged.{stores_of}
 
 -- the bytes of a slice are bytes
 pub bytes_of : (s : List ℕ) → ((j : ℕ) → Fits w8 (get_or s j 0)) → Bytes s
@@ -50,11 +48,6 @@ module _ (i : List ℕ) (o : Opened) (e : o ≡ open_image i) where
     unfolding change_both
     both_refused m s f =
         not_done o.refusal _ number (λ n. (refusal n, i, m, s)) (x, i, m, s) _ bad (ap (λ (n : ℕ). (n, i, m, s)) h)
-
-    -- and no store is handed out
-    pub stores_refused : (m s : List ℕ) (f : Reu → List ℕ → List ℕ → Ticked) → no_stores ≡ stores_of f i m s
-    unfolding stores_of
-    stores_refused m s f = not_done o.refusal _ number (λ _. no_stores) no_stores _ bad refl
 
   module _ (good : o.refusal ≡ 0) where
     pub long : length i ≡ image_size
@@ -92,11 +85,3 @@ module _ (i : List ℕ) (o : Opened) (e : o ≡ open_image i) where
         done o.refusal _ number (λ n. (refusal n, i, m, s)) (r, j, b, t) _ good
         (ap (λ (y : ℕ × List ℕ). (y.0, y.1, b, t)) (hx ∙ ap (λ (y : Answer). changed y i) hn) ∙ ap (λ (y : Ticked). changed_both y i) ha
         ∙ ap (λ (y : Opened). changed_both (f y.reu m s) i) e)
-
-    -- its stores are those of the call
-    pub stores_done : (m s : List ℕ) (f : Reu → List ℕ → List ℕ → Ticked) (a : StepAnswer) (b t : List ℕ) → (a, b, t) ≡ f o.reu m s
-        → a.stores ≡ stores_of f i m s
-    unfolding stores_of
-    stores_done m s f a b t ha =
-        done o.refusal _ number (λ _. no_stores) a.stores _ good
-        (ap (λ (y : Ticked). y.0.stores) ha ∙ ap (λ (y : Opened). (f y.reu m s).0.stores) e)

@@ -3,10 +3,8 @@
 ghost use Rattle.std.specs.Prelude.{◌≡◌};
 ghost use Rattle.reu.specs.Exports.{changed, code, refusal, reu_bus_action, reu_c64_access, reu_capacity_bytes, reu_cpu_ready, reu_cycle, reu_debug_register, reu_dma_active, reu_new, reu_read, reu_reset, reu_set_enabled, reu_set_size, reu_storage_present, reu_tick_dma, reu_trigger_ff00, reu_write};
 ghost use Rattle.reu.specs.Inner.{Carried, Kept};
-ghost use Rattle.reu.specs.Logged.{logged_cycle};
 
 use controller::{Answer, Reu};
-use regs::Stores;
 
 // An answer is this times the refusal number, plus a value.
 const REFUSAL_UNIT: u32 = 16_777_216;
@@ -252,49 +250,6 @@ pub extern "C" fn reu_tick_dma(
     finish(image, answer.numbered())
 }
 
-// What a cycle answers, and the registers that it has stored where it ended a command with Autoload.
-#[derive(Drop)]
-pub struct Logged {
-    pub answer: u32,
-    pub stores: Stores,
-}
-
-// The cycle for a host in Rattle that keeps a log: `reu_run_reu_cycle`, with the stores that the controller hands out.
-pub fn logged_cycle(
-    image: &mut [u8],
-    bus: &mut [u8],
-    storage: &mut [u8],
-    ba_high: u32,
-    cycle: u64,
-    ba_low: u32,
-    ba_high_phi1: u32,
-) -> Logged
-    ensures { (result, image.new, bus.new, storage.new) ≡ logged_cycle image.old bus.old storage.old ba_high cycle ba_low ba_high_phi1 }
-{
-    let opened = image::open(image);
-    let refusal = opened.refusal;
-    if refusal != ACCEPTED {
-        return Logged {
-            answer: refused(refusal),
-            stores: Stores::none(),
-        };
-    }
-    let reu = opened.reu;
-    let answer = reu.run_reu_cycle(
-        bus,
-        storage,
-        ba_high != 0,
-        ba_high_phi1 != 0,
-        cycle,
-        ba_low != 0,
-    );
-    let stores = answer.stores;
-    Logged {
-        answer: finish(image, answer.numbered()),
-        stores,
-    }
-}
-
 #[unsafe(no_mangle)]
 pub extern "C" fn reu_run_reu_cycle(
     image: &mut [u8],
@@ -307,6 +262,19 @@ pub extern "C" fn reu_run_reu_cycle(
 ) -> u32
     ensures { (result, image.new, bus.new, storage.new) ≡ reu_cycle image.old bus.old storage.old ba_high cycle ba_low ba_high_phi1 }
 {
-    let logged = logged_cycle(image, bus, storage, ba_high, cycle, ba_low, ba_high_phi1);
-    logged.answer
+    let opened = image::open(image);
+    let refusal = opened.refusal;
+    if refusal != ACCEPTED {
+        return refused(refusal);
+    }
+    let reu = opened.reu;
+    let answer = reu.run_reu_cycle(
+        bus,
+        storage,
+        ba_high != 0,
+        ba_high_phi1 != 0,
+        cycle,
+        ba_low != 0,
+    );
+    finish(image, answer.numbered())
 }

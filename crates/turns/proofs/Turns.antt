@@ -27,7 +27,7 @@ some_bytes (b ∷ f) n = ne_eqb (length (b ∷ f)) 0 (λ e. omega arith)
 pub faults_change_nothing : FaultsChangeNothing
 faults_change_nothing t z i m s h n =
     let e : true ≡ is_dropped t (fault_in i t) = rw (some_bytes (fault_in i t) n) in
-    sym (forgets z i m s t (omega arith) e refl (refl, refl)).0
+    sym (forgets z i m s t (omega arith) e refl refl)
 
 -- ---- z
 
@@ -57,7 +57,7 @@ module _ (t : List ℕ) (w : ascii "z" ≡ word_of 0 t) where
       let obeyed : is_dropped t (fault_in i t) ≡ false =
       ap (λ (l : List ℕ). cond (eqb (length l) 0) (is_comment t) true) f ∙ no_comment in
       let p = untouched z i m s in
-      sym (ap (λ (x : Turn). x.0) (obeys z i m s t (omega arith) refl obeyed (refl, refl)).0)
+      sym (ap (λ (x : Turn). x.0) (obeys z i m s t (omega arith) refl obeyed refl))
       ∙ (λ j. (((p j).0, (p j).2, (p j).3, (p j).4), asked_for j, goes_on_after z.ended j))
 
 -- a turn while cycles are still to be stepped

@@ -1,6 +1,4 @@
 use Rattle.std.proofs.Common.{◌≡◌, ℕ, ◌<◌, List, refl, arith, rules}
-use Rattle.regs.specs.declared.stores.Stores.{Stores}
-use Rattle.regs.specs.Stores.{no_stores}
 use Rattle.text.specs.Shown.{ascii, text_of}
 use Rattle.text.specs.Typed.{same, word_of}
 use Rattle.console.specs.Apply.{control_of}
@@ -20,11 +18,11 @@ by k w =
     let its-args = k.before.before.args in
     control_of w (text_of its-args.line) its-args.clock its-args.image.now
 
--- the command is known once the word's place is a name's; x is what it stores
+-- the command is known once the word's place is a name's
 known :
-    (k : tie.After-place) {n : ℕ} {o : Done} {x : Stores} → k.place.result ≡ n → n < 23 → (o ≡ by k (name_at n)) × (x ≡ no_stores) →
-    (o ≡ by k (word_of 0 (text_of k.before.before.args.line))) × (x ≡ no_stores)
-known k q h p = (named _ k.place.ensures (by k) q h p.0, p.1)
+    (k : tie.After-place) {n : ℕ} {o : Done} → k.place.result ≡ n → n < 23 → o ≡ by k (name_at n) →
+    o ≡ by k (word_of 0 (text_of k.before.before.args.line))
+known k q h p = named _ k.place.ensures (by k) q h p
 
 returns : tie.Need-returns
 unfolding control_of same
@@ -86,7 +84,7 @@ returns-9 c =
       other _ e (ascii "cycle") refl (omega arith) rest.0.1,
       other _ e (ascii "size") refl (omega arith) rest.1,
     )
-    (image (it.0, (it.1.0, (it.1.1, refl))))
+    (image (it.0, (it.1, refl)))
 
 pub control_spec : {M : Type 1} → statement M
 control_spec =

@@ -3,10 +3,7 @@ use Rattle.console.proofs.apply.set_ba.Statement.{statement}
 use Rattle.console.proofs.apply.set_ba.Tie as tie
 
 returns : tie.Need-returns
-returns c =
-    let its-new = c.before in
-    let its-word = its-new.before in
-    (λ j. (its-word.before.args.clock.cycle, its-word.word.ensures j, 0), (its-new.new.ensures, c.«none».ensures))
+returns c = (λ j. (c.before.before.args.clock.cycle, c.before.word.ensures j, 0), c.new.ensures)
 
 pub set_ba_spec : {M : Type 1} → statement M
-set_ba_spec = tie.close (tie.spec (λ c κs. search rules) (λ c κs. search rules) (λ c κs. search rules) returns)
+set_ba_spec = tie.close (tie.spec (λ c κs. search rules) (λ c κs. search rules) returns)

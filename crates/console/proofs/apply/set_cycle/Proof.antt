@@ -6,21 +6,21 @@ use Rattle.console.proofs.apply.set_cycle.Tie as tie
 
 returns : tie.Need-returns
 returns c =
-    let its-new = c.before in
-    let its-words = its-new.before.before.before.before.before in
-    let its-clock = its-words.before.args.clock in
-    let its-if1 = its-new.before.before.before.before.if1 in
-    rw (← its-words.words.ensures.0, eq-eqb _ _ its-if1.true, ← its-new.before.before.word.ensures)
-    ((λ j. (its-new.before.value.ensures.0 j, text_of its-clock.ba, its-clock.at)), (its-new.new.ensures, c.«none».ensures))
+    let its-clock = c.before.before.before.before.before.before.args.clock in
+    let its-words = c.before.before.before.before.before.words in
+    let its-if1 = c.before.before.before.before.if1 in
+    rw (← its-words.ensures.0, eq-eqb _ _ its-if1.true, ← c.before.before.word.ensures)
+    ((λ j. (c.before.value.ensures.0 j, text_of its-clock.ba, its-clock.at)), c.new.ensures)
 
 returns-2 : tie.Need-returns-2
 returns-2 c =
-    let its-else = c.before.before.before.before.before in
-    rw (← its-else.before.words.ensures.0, ne_eqb _ _ its-else.if1.false) (refl, (search (rules, then), c.none2.ensures))
+    let its-words = c.before.before.before.before.before.words in
+    let its-if1 = c.before.before.before.before.if1 in
+    rw (← its-words.ensures.0, ne_eqb _ _ its-if1.false) (refl, search (rules, then))
 
 pub set_cycle_spec : {M : Type 1} → statement M
 set_cycle_spec =
     tie.close
     (tie.spec (λ c κs. search rules) (λ c κs. search rules) (λ c κs. search rules) (λ c. search rules)
-    (λ c κs. search rules) (λ c κs. search rules) returns (λ c κs. search rules) (λ c. search rules) (λ c κs. search rules)
-    (λ c κs. search rules) (λ c κs. search rules) returns-2)
+    (λ c κs. search rules) returns (λ c κs. search rules) (λ c. search rules) (λ c κs. search rules)
+    (λ c κs. search rules) returns-2)

@@ -5,10 +5,9 @@ use Rattle.console.proofs.apply.step.Tie as tie
 
 returns : tie.Need-returns
 returns c =
-    let its_line = c.before.before in
-    let its-cycle = its_line.before.before.before.before.before.before.before.before.before in
-    let its-inputs = its-cycle.before.before.before.before.inputs in
-    stepped _ _ _ _ _ _ _ _ its-inputs.ensures.0 its-cycle.run-cycle.ensures its_line.cycle-line.ensures
+    let its-run-cycle = c.before.before.before.before.before.before.before.before.before.before.run-cycle in
+    let its-inputs = c.before.before.before.before.before.before.before.before.before.before.before.before.before.before.inputs in
+    stepped _ _ _ _ _ _ _ _ its-inputs.ensures.0 its-run-cycle.ensures c.before.cycle-line.ensures
     c.after.ensures
 
 pub step_spec : {M : Type 1} → statement M

@@ -4,9 +4,7 @@ use Rattle.console.proofs.apply.trigger.Tie as tie
 
 returns : tie.Need-returns
 returns c =
-    let its-new = c.before in
-    let its-image = ap (λ (x : ℕ × List ℕ). x.1) its-new.before.before.before.reu-trigger-ff00.ensures in
-    (refl, (its-new.new.ensures, (c.«none».ensures, its-image)))
+    (refl, (c.new.ensures, ap (λ (x : ℕ × List ℕ). x.1) c.before.before.before.reu-trigger-ff00.ensures))
 
 pub trigger_spec : {M : Type 1} → statement M
-trigger_spec = tie.close (tie.spec (λ c κs. search rules) (λ c κs. search rules) (λ c κs. search rules) (λ c. search rules) returns)
+trigger_spec = tie.close (tie.spec (λ c κs. search rules) (λ c κs. search rules) (λ c. search rules) returns)

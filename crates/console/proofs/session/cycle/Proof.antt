@@ -5,8 +5,8 @@ use Rattle.console.proofs.session.cycle.Tie as tie
 
 returns : tie.Need-returns
 returns c =
-    let its-step = c.before.before.before.before.before.before.before.before.before.before.before.step in
-    (one_cycle _ _ _ _ _ _ _ its-step.ensures.0 c.before.one_fewer.ensures c.new.ensures, its-step.ensures.1)
+    let its-step = c.before.before.before.before.before.before.before.before.before.before.step in
+    one_cycle _ _ _ _ _ _ _ its-step.ensures c.before.one_fewer.ensures c.new.ensures
 
 pub cycle_spec : {M : Type 1} → statement M
 cycle_spec =

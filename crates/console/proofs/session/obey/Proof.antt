@@ -5,10 +5,10 @@ use Rattle.console.proofs.session.obey.Tie as tie
 
 returns : tie.Need-returns
 returns c =
-    let done = c.before.before.before.before.before.before.before.before.before.before.before in
+    let done = c.before.before.before.before.before.before.before.before.before.before in
     let its-args = done.before.before.before.before.before.before.before.args in
-    let it = done.apply.ensures in
-    (one_line its-args.session _ _ _ _ _ _ _ it.0 c.before.steps_of.ensures c.ended-after.ensures, it.1)
+    one_line its-args.session _ _ _ _ _ _ _ done.apply.ensures c.before.steps_of.ensures
+    c.ended-after.ensures
 
 pub obey_spec : {M : Type 1} → statement M
 obey_spec =

@@ -16,7 +16,7 @@ returns-2 c =
     let its-fault = at_last_offset _ _ asked.before.line-fault.ensures asked.before.before.size_in.ensures.0 in
     let it = c.dropped.ensures in
     forgets _ _ _ _ _ asked.before.before.before.before.if1.false (asked.is-dropped.ensures ∙ ap (is_dropped _) its-fault)
-    c.before.if2.true (no_line _ _ _ _ _ it.0 (it.1.0 ∙ its-fault) it.1.1.0, it.1.1.1)
+    c.before.if2.true (no_line _ _ _ _ _ it.0 (it.1.0 ∙ its-fault) it.1.1)
 
 returns-3 : tie.Need-returns-3
 returns-3 c =

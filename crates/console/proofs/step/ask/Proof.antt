@@ -11,18 +11,16 @@ returns c =
 
 returns-2 : tie.Need-returns-2
 returns-2 c =
-    let its-size = c.before in
-    let its-action = its-size.before.before.before.before.before.before.before.before.before in
+    let its-action = c.before.before.before.before.before.before.before.before.before in
     let its-copy = its-action.before.before.before in
     let its-args = its-copy.before.before.before.before.args in
     asked its-args.inputs its-args.number its-args.image.now its-args.storage.now its-copy.before.if1.false
     its-copy.copied.ensures.0 its-action.reu-bus-action.ensures
-    its-size.before.before.before.before.reu-c64-access.ensures its-size.before.before.transfer-expansion.ensures
-    its-size.size_in.ensures.0 c.«none».ensures
+    c.before.before.before.before.reu-c64-access.ensures c.before.before.transfer-expansion.ensures c.size_in.ensures.0
 
 pub ask_spec : {M : Type 1} → statement M
 ask_spec =
     tie.close
     (tie.spec (λ c κs. search rules) returns (λ c κs. search rules) (λ c. search rules) (λ c. search rules)
     (λ c. search rules) (λ c κs. search rules) (λ c. search rules) (λ c κs. search rules) (λ c. search rules)
-    (λ c κs. search rules) (λ c. search rules) (λ c κs. search rules) (λ c. search rules) (λ c κs. search rules) (λ c. search rules) returns-2)
+    (λ c κs. search rules) (λ c. search rules) (λ c κs. search rules) (λ c. search rules) (λ c. search rules) returns-2)

@@ -7,7 +7,7 @@ use Rattle.console.proofs.step.count.Tie as tie
 returns : tie.Need-returns
 unfolding counted
 returns c =
-    let its-either = c.before.before.before.before in
+    let its-either = c.before.before.before in
     rw (
       eq-eqb _ _ c.before.if1.true,
       its-either.before.next.ensures,
@@ -26,7 +26,7 @@ unfolding counted
 returns-3 c =
     let its-accepted = c.before.before in
     let its-if1 = its-accepted.before in
-    let its-either = its-if1.before.before.before in
+    let its-either = its-if1.before.before in
     rw (
       ne_eqb _ _ its-if1.if1.false,
       sym its-accepted.is-accepted.ensures ∙ not-false _ c.before.if2.false,

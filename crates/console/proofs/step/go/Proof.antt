@@ -1,6 +1,4 @@
-use Rattle.std.proofs.Common.{◌≡◌, length, sym, refl, ap, ◌∙◌, arith, rules}
-use Rattle.transfer.specs.Dma.{neither}
-use Rattle.regs.specs.declared.stores.Stores.{Stores}
+use Rattle.std.proofs.Common.{◌≡◌, length, sym, refl, ◌∙◌, arith, rules}
 use Rattle.console.specs.Step.{go_of}
 use Rattle.console.proofs.Runs.{over, turn}
 use Rattle.console.proofs.step.go.Statement.{statement}
@@ -23,16 +21,10 @@ loop-again c =
     (its-loop.invariant.0 ∙ more, search rules, search rules, search rules)
 
 returns : tie.Need-returns invariant-loop decreases-loop
-returns c =
-    let its-none = c.before.before in
-    let its-args = its-none.before.before.before.before.args in
-    over _ _ c.loop-test.false ∙ sym c.before.loop.invariant.0
-    ∙ ap
-    (λ (l : Stores). go_of its-args.limit (record { clock = its-args.clock; granted = 0; held = 0; passed = neither; stores = l }, its-args.image.now, its-args.bus.now, its-args.storage.now))
-    its-none.«none».ensures
+returns c = over _ _ c.loop-test.false ∙ sym c.before.loop.invariant.0
 
 pub go_spec : {M : Type 1} → statement M
 go_spec =
     tie.close
-    (tie.spec invariant-loop decreases-loop (λ c κs. search rules) (λ c. (refl, refl, refl, refl)) (λ c κs. search rules) (λ c. omega arith)
+    (tie.spec invariant-loop decreases-loop (λ c. (refl, refl, refl, refl)) (λ c κs. search rules) (λ c. omega arith)
     (λ c. omega arith) loop-again (λ c. search rules) (λ c. search rules) (λ c. search rules) returns)

@@ -1,5 +1,5 @@
--- `controller::cycle::step` meets its contract: a walk of its MIR, by hand. The struct's borrow is opened, the struct is copied out whole, and `parted_cycle` is called with the copy and with the slices, which go to it at their own lifetimes, shares and names; of what it gives the struct is stored over the old one whole, the borrow is closed at it, and the answer is returned.
--- All that the proof knows of `parted_cycle` is that it meets its contract.
+-- `controller::cycle::step` meets its contract: a walk of its MIR, by hand. The struct's borrow is opened, the struct is copied out whole, and `run_reu_cycle` is called with the copy and with the slices, which go to it at their own lifetimes, shares and names; of its answer the struct is stored over the old one whole, and the borrow is closed at it.
+-- All that the proof knows of `run_reu_cycle` is that it meets its contract.
 -- Assumes nothing.
 use mathlib.Core.Path.{◌≡◌, refl, ap}
 use Prim.Native.Nat.{ℕ, ◌<◌, ◌^◌}
@@ -43,19 +43,20 @@ use denote.Triple.Table.{entered, cited}
 use denote.Triple.Walked.{says, Stays, stay_ref, gave_slice, stay_none, walk_of, AllGo, Goes-none, Goes-ref, Goes-gave_slice, Walks, ends_at, walked, walk_Meets}
 use denote.Exit.{yes}
 use Rattle.controller.specs.declared.reu.Reu.{Reu}
-use Rattle.controller.specs.declared.reu.Parted.{Parted}
+use Rattle.controller.specs.declared.reu.StepAnswer.{StepAnswer}
 use Rattle.controller.specs.declared.reu.Stepped.{Stepped}
-use Rattle.controller.specs.Calls.{step_call as answered}
+use Rattle.controller.specs.Calls.{cycle_call as answered}
+use Rattle.controller.specs.Calls.{stepped as parted}
 use Rattle.controller.specs.contracts.reu.Reu as T
 use Rattle.controller.proofs.reu.Reu.TheLaws as T'
-use Rattle.controller.specs.contracts.reu.Parted as D
-use Rattle.controller.proofs.reu.Parted.TheLaws as D'
+use Rattle.controller.specs.contracts.reu.StepAnswer as D
+use Rattle.controller.proofs.reu.StepAnswer.TheLaws as D'
 use Rattle.controller.specs.contracts.reu.Stepped as S
 use Rattle.controller.proofs.reu.Stepped.TheLaws as S'
-use Rattle.controller.specs.contracts.reu.Reu.parted_cycle as callee
-use Rattle.controller.proofs.reu.Reu.parted_cycle.Symbol as callee-def
-use Rattle.controller.proofs.reu.Reu.parted_cycle.Symbol.{name as #callee}
-use Rattle.controller.proofs.reu.Reu.parted_cycle.Met as callee-thm
+use Rattle.controller.specs.contracts.reu.Reu.run_reu_cycle as callee
+use Rattle.controller.proofs.reu.Reu.run_reu_cycle.Symbol as callee-def
+use Rattle.controller.proofs.reu.Reu.run_reu_cycle.Symbol.{name as #callee}
+use Rattle.controller.proofs.reu.Reu.run_reu_cycle.Met as callee-thm
 use Rattle.controller.specs.contracts.cycle.step.Key.{name as #step}
 use Rattle.controller.specs.contracts.cycle.step as step
 use Rattle.controller.proofs.cycle.step.Statement as stated
@@ -65,12 +66,15 @@ abbrev stayed : Stays (step.ended).signature.params (step.ended).kept
 stayed = (stay_ref (0 ∷ []) tt (plain (λ _. T.the_row)), (gave_slice (1 ∷ []) tt (plain (λ _. u8)), (gave_slice (2 ∷ []) tt (plain (λ _. u8)), (stay_none (λ _. bool) yes, (stay_none (λ _. bool) yes, (stay_none (λ _. u64) yes, (stay_none (λ _. bool) yes, tt)))))))
 
 -- what the callee is proved to answer
-abbrev Said : Reu → List ℕ → List ℕ → Bool → Bool → ℕ → Bool → Parted → List ℕ → List ℕ → Type 0
-Said h m₁ m₂ ba-high ba-high-phi1 cycle ba-low r m₁' m₂' = ◌≡◌ {A = Stepped × Reu × List ℕ × List ℕ} (r.answer, r.reu, m₁', m₂') (answered h m₁ m₂ ba-high ba-high-phi1 cycle ba-low)
+abbrev Said : Reu → List ℕ → List ℕ → Bool → Bool → ℕ → Bool → StepAnswer → List ℕ → List ℕ → Type 0
+Said h m₁ m₂ ba-high ba-high-phi1 cycle ba-low r m₁' m₂' = ◌≡◌ {A = StepAnswer × List ℕ × List ℕ} (r, m₁', m₂') (answered h m₁ m₂ ba-high ba-high-phi1 cycle ba-low)
 
--- what its fields owe, at their machine values
-fields : (r : Parted) (w : Val) → Is D.the_row r (w ∷ []) → Is T.the_row r.reu (LL.vals T.the_type T'.the_laws r.reu) × Is S.the_row r.answer (LL.vals S.the_type S'.the_laws r.answer)
-fields r w is = let each = LL.owed D.the_type D'.the_laws r _ is in (each.1.0, each.0)
+abbrev given_on : StepAnswer → Stepped
+given_on r = record { refusal = r.refusal; flag = r.flag; passed = r.passed }
+
+-- what an answer's fields owe, at their machine values
+fields : (r : StepAnswer) (w : Val) → Is D.the_row r (w ∷ []) → Is T.the_row r.reu (LL.vals T.the_type T'.the_laws r.reu) × Is S.the_row (given_on r) (LL.vals S.the_type S'.the_laws (given_on r)) × (r.refusal < 2 ^ 8)
+fields r w is = let each = LL.owed D.the_type D'.the_laws r _ is in (each.1.1.1.0, LL.owes S.the_type S'.the_laws (given_on r) (each.0, (each.1.0, (each.1.1.0, tt))), each.0.1)
 
 -- the contract that the proof cites
 abbrev Callee : {M : Type 1} {𝓤 : Ura M} (𝓛 : Logic 𝓤) (at_mem : Memory → SProp 𝓤) (run : Routine → Fun 𝓤) → Contract 𝓤
@@ -107,14 +111,14 @@ module _ {M : Type 1} {𝓤 : Ura M} (𝓛 : Logic 𝓤) (at_mem : Memory → SP
   abbrev Post : Val → SProp 𝓤
   Post = (walk_of 𝓛 step.ended stayed (step.clauses 𝓛 at_mem run)).post (((κ, (κ₁, (κ₂, tt))), (q, (q₁, (q₂, tt))), tt, x, at), tt)
 
-  exits : (r : Parted) (m₁' : List ℕ) (m₂' : List ℕ) → Said h m₁ m₂ ba-high ba-high-phi1 cycle ba-low r m₁' m₂' → length m₁' ≡ length m₁ → length m₂' ≡ length m₂ → Is S.the_row r.answer (LL.vals S.the_type S'.the_laws r.answer) → ent 𝓤 (⋆ 𝓛 (‵ (fobs γ ((T.the_row).coded.code r.reu)) ∷ ‵ (fbor κ (Body (mem T.the_row) b o γ)) ∷ ‵ (flft κ q) ∷ (‵ (flft κ₁ q₁) ⊛ ‵ (flft κ₂ q₂) ⊛ ‵ ftrue) ∷ ‵ (finally u8 γ₂ m₂') ∷ ‵ (finally u8 γ₁ m₁') ∷ [])) (Post (LL.val S.the_type S'.the_laws r.answer))
+  exits : (r : StepAnswer) (m₁' : List ℕ) (m₂' : List ℕ) → Said h m₁ m₂ ba-high ba-high-phi1 cycle ba-low r m₁' m₂' → length m₁' ≡ length m₁ → length m₂' ≡ length m₂ → Is S.the_row (given_on r) (LL.vals S.the_type S'.the_laws (given_on r)) → ent 𝓤 (⋆ 𝓛 (‵ (fobs γ ((T.the_row).coded.code r.reu)) ∷ ‵ (fbor κ (Body (mem T.the_row) b o γ)) ∷ ‵ (flft κ q) ∷ (‵ (flft κ₁ q₁) ⊛ ‵ (flft κ₂ q₂) ⊛ ‵ ftrue) ∷ ‵ (finally u8 γ₂ m₂') ∷ ‵ (finally u8 γ₁ m₁') ∷ [])) (Post (LL.val S.the_type S'.the_laws (given_on r)))
   exits r m₁' m₂' e l₁ l₂ is =
       qed 𝓛 (‵ (fobs γ ((T.the_row).coded.code r.reu)) ∷ ‵ (fbor κ (Body (mem T.the_row) b o γ)) ∷ ‵ (flft κ q) ∷ (‵ (flft κ₁ q₁) ⊛ ‵ (flft κ₂ q₂) ⊛ ‵ ftrue) ∷ ‵ (finally u8 γ₂ m₂') ∷ ‵ (finally u8 γ₁ m₁') ∷ []) ∵
-      suffices ! _ (ends_at 𝓛 step.ended stayed (step.clauses 𝓛 at_mem run) (((κ, (κ₁, (κ₂, tt))), (q, (q₁, (q₂, tt))), tt, x, at), tt) _ r.answer (r.reu, (m₁', (m₂', (tt, (tt, (tt, (tt, tt))))))) (tt, (l₁, (l₂, (tt, (tt, (tt, (tt, tt)))))))) $ says ! e $
+      suffices ! _ (ends_at 𝓛 step.ended stayed (step.clauses 𝓛 at_mem run) (((κ, (κ₁, (κ₂, tt))), (q, (q₁, (q₂, tt))), tt, x, at), tt) _ (given_on r) (r.reu, (m₁', (m₂', (tt, (tt, (tt, (tt, tt))))))) (tt, (l₁, (l₂, (tt, (tt, (tt, (tt, tt)))))))) $ says ! (ap parted e) $
       move ! (2 ∷ 3 ∷ []) $ join ! $ frame ! $ feq_i ! (List Val) (vptr b o ∷ []) (vptr b o ∷ []) refl $ fjoin3 ! $
       nothing ! $ owned ! bool (Is bool) (bool_Makes 𝓛) ba-low _ refl $ fjoin ! $ owned ! u64 (Is u64) (uint_Makes 𝓛 w64) cycle _ (refl, cycle-fits) $ fjoin ! $ owned ! bool (Is bool) (bool_Makes 𝓛) ba-high-phi1 _ refl $ fjoin ! $ owned ! bool (Is bool) (bool_Makes 𝓛) ba-high _ refl $ fjoin ! $
       move ! (2 ∷ 0 ∷ []) $ fjoin ! $ move ! (2 ∷ 0 ∷ []) $ fjoin ! $ move ! (1 ∷ 0 ∷ []) $ fjoin ! $
-      owned ! S.the_row (Is S.the_row) (LL.makes S.the_type S'.the_plain 𝓛) r.answer _ is $ move ! (1 ∷ 0 ∷ []) $ done !
+      owned ! S.the_row (Is S.the_row) (LL.makes S.the_type S'.the_plain 𝓛) (given_on r) _ is $ move ! (1 ∷ 0 ∷ []) $ done !
 
   -- what the callee's triple binds outside: the slices' own lifetimes, shares and values
   abbrev args : Reu × (MutBor (List ℕ) × (MutBor (List ℕ) × (Bool × (Bool × (ℕ × (Bool × Unit {0}))))))
@@ -146,15 +150,15 @@ module _ {M : Type 1} {𝓤 : Ura M} (𝓛 : Logic 𝓤) (at_mem : Memory → SP
         assigns ! (agg ! (and_then ! (load ! (from ! (stop !)) (look ! 7 refl)) (and_then ! (load ! (from ! (fld ! refl (stop !))) (look_in ! 25 (sub ! 1 refl (whole !)))) (no_more !)))) (from ! (stop !)) (init ! 5 refl (tt, (tt, (record { fits = room₂.0 }, tt)))) $
         move ! (34 ∷ 1 ∷ 33 ∷ []) $ use3 𝓛 (raw ((Callee 𝓛 at_mem run).pre to_callee)) goes_callee $
         calls_at ! fm (Callee 𝓛 at_mem run) known to_callee (and_then ! (load ! (from ! (stop !)) (look ! 15 refl)) (and_then ! (load ! (from ! (stop !)) (look ! 9 refl)) (and_then ! (load ! (from ! (stop !)) (look ! 5 refl)) (and_then ! (load ! (from ! (stop !)) (look ! 23 refl)) (and_then ! (load ! (from ! (stop !)) (look ! 21 refl)) (and_then ! (load ! (from ! (stop !)) (look ! 19 refl)) (and_then ! (load ! (from ! (stop !)) (look ! 17 refl)) (no_more !)))))))) (λ w.
-        use1 𝓛 (later (some (λ (r : Parted). ((‵ (flft κ₁ q₁) ⊛ ‵ (flft κ₂ q₂) ⊛ ‵ ftrue) ⊛ ‵ ((D.the_row).own_val r (w ∷ []))) ⊛ raw (ensured 𝓛 callee.ended (callee.clauses 𝓛 at_mem run) (κ₁, (κ₂, tt)) args tt r)))) (id⊢ 𝓤 _) $ await ! tt $ pick ! (λ r.
+        use1 𝓛 (later (some (λ (r : StepAnswer). ((‵ (flft κ₁ q₁) ⊛ ‵ (flft κ₂ q₂) ⊛ ‵ ftrue) ⊛ ‵ ((D.the_row).own_val r (w ∷ []))) ⊛ raw (ensured 𝓛 callee.ended (callee.clauses 𝓛 at_mem run) (κ₁, (κ₂, tt)) args tt r)))) (id⊢ 𝓤 _) $ await ! tt $ pick ! (λ r.
         -- what the callee ensures, at some last lists
         split ! $ move ! (1 ∷ []) $ use1 𝓛 (some (λ (zs : Unit {0} × (List ℕ × (List ℕ × (Unit {0} × (Unit {0} × (Unit {0} × (Unit {0} × Unit {0}))))))). ‵ (lasts callee.ended (κ₁, (κ₂, tt)) args zs) ⊛ raw (fact 𝓤 (Said h m₁ m₂ ba-high ba-high-phi1 cycle ba-low r zs.1.0 zs.1.1.0)))) (id⊢ 𝓤 _) $ pick ! (λ zs.
         split ! $ move ! (1 ∷ []) $ heard ! (Said h m₁ m₂ ba-high ba-high-phi1 cycle ba-low r zs.1.0 zs.1.1.0) (λ e. fsplit ! $ drop ! $ fsplit ! $ fsplit ! $ move ! (1 ∷ []) $ feq_l ! (λ l₁. move ! (1 ∷ []) $ fsplit ! $ fsplit ! $ move ! (1 ∷ []) $ feq_l ! (λ l₂. move ! (1 ∷ []) $ drop ! $
         move ! (2 ∷ []) $ split ! $ move ! (1 ∷ []) $ peeks ! D.the_row (Is D.the_row) (shows 𝓛 D.the_row) r (w ∷ []) (λ is. drop ! $
         -- [the slices' tokens; their last lists, the last slice's first; the struct's cell; the open borrow; obs; auth; _13; …; and so on to room for _0; …]
         land ! (from ! (stop !)) (init ! 15 refl ((LL.lawful D.the_type D'.the_laws 𝓛).typed r _ is).0) $ rewrite ! 15 (λ (u : Val). ‵ (fat full_share D'.mir l₉ 0 u)) (ap only (LL.tells D.the_type D'.the_laws r (w ∷ []) is)) refl $
-        assigns ! (of_opd ! (load ! (from ! (fld ! refl (stop !))) (look_in ! 15 (sub ! 1 refl (whole !))))) (from ! (hop ! (look ! 31 refl) (stop !))) (store_raw ! 3 refl ((LL.lawful T.the_type T'.the_laws 𝓛).typed r.reu _ (fields r w is).0).0) $
-        assigns ! (of_opd ! (load ! (from ! (fld ! refl (stop !))) (look_in ! 15 (sub ! 0 refl (whole !))))) (from ! (stop !)) (init ! 33 refl ((LL.lawful S.the_type S'.the_laws 𝓛).typed r.answer _ (fields r w is).1).0) $
+        assigns ! (of_opd ! (load ! (from ! (fld ! refl (stop !))) (look_in ! 15 (sub ! 3 refl (whole !))))) (from ! (hop ! (look ! 31 refl) (stop !))) (store_raw ! 3 refl ((LL.lawful T.the_type T'.the_laws 𝓛).typed r.reu _ (fields r w is).0).0) $
+        assigns ! (agg ! (and_then ! (load ! (from ! (fld ! refl (stop !))) (look_in ! 15 (sub ! 0 refl (whole !)))) (and_then ! (load ! (from ! (fld ! refl (stop !))) (look_in ! 15 (sub ! 1 refl (whole !)))) (and_then ! (load ! (from ! (fld ! refl (stop !))) (look_in ! 15 (sub ! 2 refl (whole !)))) (no_more !))))) (from ! (stop !)) (init ! 33 refl (tt, (record { fits = (fields r w is).2 }, (tt, ((tt, (tt, tt)), tt))))) $
         owned ! T.the_row (Is T.the_row) (LL.makes T.the_type T'.the_plain 𝓛) r.reu _ (fields r w is).0 $ move ! (4 ∷ 0 ∷ 5 ∷ 6 ∷ 7 ∷ []) $ closes ! tt T.the_row r.reu (LL.vals T.the_type T'.the_laws r.reu) b o $
         returns ! (look ! 32 refl) $ forget ! 6 refl $ forget ! 8 refl $ forget ! 10 refl $ forget ! 12 refl $ forget ! 14 refl $ forget ! 16 refl $ forget ! 18 refl $ forget ! 20 refl $ forget ! 22 refl $ forget ! 24 refl $ forget ! 26 refl $ forget ! 28 refl $ forget ! 30 refl $ forget ! 32 refl $
         move ! (32 ∷ 33 ∷ []) $ free1 ! $ move ! (30 ∷ 31 ∷ []) $ free1 ! $ move ! (28 ∷ 29 ∷ []) $ free1 ! $ move ! (26 ∷ 27 ∷ []) $ free1 ! $ move ! (24 ∷ 25 ∷ []) $ free1 ! $ move ! (22 ∷ 23 ∷ []) $ free1 ! $ move ! (20 ∷ 21 ∷ []) $ free1 ! $ move ! (18 ∷ 19 ∷ []) $ free1 ! $ move ! (16 ∷ 17 ∷ []) $ free1 ! $ move ! (14 ∷ 15 ∷ []) $ free1 ! $ move ! (12 ∷ 13 ∷ []) $ free1 ! $ move ! (10 ∷ 11 ∷ []) $ free1 ! $ move ! (8 ∷ 9 ∷ []) $ free1 ! $ move ! (6 ∷ 7 ∷ []) $ free1 ! $ free0 ! $
@@ -183,4 +187,4 @@ step_spec 𝓤 𝓛 𝓜 𝓡 =
     entered 𝓤 𝓛.H (triple_of 𝓛 step.signature (step.spec 𝓛 𝓜.mem 𝓡.run))
     (tables 𝓤 𝓛.H 𝓜 𝓡 code.env).C (tables 𝓤 𝓛.H 𝓜 𝓡 code.env).Λ #step code.function (code.unfolded 𝓤 𝓛.H 𝓜 𝓡)
     (step_meets 𝓛 𝓜.mem 𝓡.run (tables_of 𝓤 𝓛.H 𝓜 (tables 𝓤 𝓛.H 𝓜 𝓡 code.env))
-    (cited 𝓤 𝓛.H (Callee 𝓛 𝓜.mem 𝓡.run) 𝓜 𝓡 code.env #callee callee-def.routine code.calls-controller::reu::Reu::parted-cycle (callee-thm.met 𝓤 𝓛 𝓜 𝓡)))
+    (cited 𝓤 𝓛.H (Callee 𝓛 𝓜.mem 𝓡.run) 𝓜 𝓡 code.env #callee callee-def.routine code.calls-controller::reu::Reu::run-reu-cycle (callee-thm.met 𝓤 𝓛 𝓜 𝓡)))

@@ -3,11 +3,8 @@ use Rattle.regs.proofs.finish_dma.autoloaded.Statement.{statement}
 use Rattle.regs.proofs.finish_dma.autoloaded.Tie as tie
 
 returns : tie.Need-returns
-returns c = rw (c.before.if1.true, c.all.ensures)
-
-returns-2 : tie.Need-returns-2
-returns-2 c = rw (c.before.if1.false, c.«none».ensures)
+returns c = rw (c.before.if1.true, c.counters.ensures)
 
 pub autoloaded_spec : {M : Type 1} → statement M
 autoloaded_spec =
-    tie.close (tie.spec (λ c κs. search rules) returns (λ c κs. search rules) returns-2)
+    tie.close (tie.spec (λ c κs. search rules) returns (λ c. search rules))

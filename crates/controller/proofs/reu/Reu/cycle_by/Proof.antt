@@ -17,10 +17,10 @@ returns-2 c = rw (c.before.enum-told2.given.1, c.quiet-step2.ensures)
 returns-3 : tie.Need-returns-3
 unfolding cycle_by
 returns-3 c =
-    let its-tick = c.before.before.before.before.before.before.before.before.tick in
-    let its-enum-told3 = c.before.before.before.before.before.before.before.before.before.before.before.enum-told3 in
+    let its-tick = c.before.before.before.before.before.before.before.tick in
+    let its-enum-told3 = c.before.before.before.before.before.before.before.before.before.before.enum-told3 in
     rw (its-enum-told3.given.1, c.counted.ensures)
-    (ap (λ (t : Ticked). (ticked true t.0.passed t.0.stores (counted t.0.reu), t.1, t.2)) its-tick.ensures)
+    (ap (λ (t : Ticked). (ticked true t.0.passed (counted t.0.reu), t.1, t.2)) its-tick.ensures)
 
 pub cycle_by_spec : {M : Type 1} → statement M
 cycle_by_spec =

@@ -5,8 +5,10 @@ use Rattle.controller.proofs.reu.Reu.finish_dma.Tie as tie
 
 returns : tie.Need-returns
 unfolding finish_dma
-returns c = rw (c.update-irq.ensures, c.before.with-dma.ensures, c.before.before.finished.ensures)
+returns c = rw (c.update-irq.ensures, c.before.with-dma.ensures, c.before.before.autoloaded.ensures, c.before.before.before.finished.ensures)
 
 pub finish_dma_spec : {M : Type 1} → statement M
 finish_dma_spec =
-    tie.close (tie.spec (λ c κs. search rules) (λ c κs. search rules) (λ c κs. search rules) returns)
+    tie.close
+    (tie.spec (λ c κs. search rules) (λ c κs. search rules) (λ c κs. search rules) (λ c κs. search rules)
+    returns)

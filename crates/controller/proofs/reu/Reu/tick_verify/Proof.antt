@@ -5,8 +5,10 @@ use Rattle.controller.proofs.reu.Reu.tick_verify.Tie as tie
 
 returns : tie.Need-returns
 unfolding tick_verify
-returns c = c.advance.ensures
+returns c =
+    let its-with-error = c.before.with-error in
+    rw (c.advance.ensures, its-with-error.ensures)
 
 pub tick_verify_spec : {M : Type 1} → statement M
 tick_verify_spec =
-    tie.close (tie.spec (λ c κs. search rules) returns)
+    tie.close (tie.spec (λ c κs. search rules) (λ c κs. search rules) returns)
