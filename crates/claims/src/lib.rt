@@ -1,5 +1,7 @@
 // The claims about whole runs of the exported calls, one about bytes completed one after another, and those about saved machines. Each function does
 // nothing: its `ensures` is the claim.
+#![tactic(auto)]
+
 ghost use Rattle.claims.specs.ChipSize.{ChipSize};
 ghost use Rattle.claims.specs.GrantedCycles.{GrantedCycles};
 ghost use Rattle.claims.specs.PassedTop.{PassedTop};

@@ -25,7 +25,7 @@ const ATTACHED: u32 = 6;
 // A swap of 65,536 bytes takes 131,072 cycles, and BA may hold it as long again.
 const LIMIT: u32 = 0x40000;
 
-#[derive(Drop)]
+#[derive(Clone, Copy)]
 pub struct Applied {
     pub clock: Clock,
     // A line to show; no bytes where there is nothing to say.

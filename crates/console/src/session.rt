@@ -12,7 +12,7 @@ use lines::keys;
 use pane::rows::size_in;
 use text::line::Line;
 
-#[derive(Drop)]
+#[derive(Clone, Copy)]
 pub struct Session {
     pub clock: Clock,
     // How many cycles are still to be stepped before the next line is read.
@@ -20,7 +20,7 @@ pub struct Session {
     pub ended: bool,
 }
 
-#[derive(Drop)]
+#[derive(Clone, Copy)]
 pub struct Turned {
     pub session: Session,
     // A line to show; no bytes where there is nothing to say.

@@ -23,7 +23,7 @@ const NO_MARKS: Passed = Passed {
 
 // What a cycle was granted, or that it was refused, the access to the bus that the controller had ready, the offset in the
 // storage, and which address ran over its top.
-#[derive(Drop)]
+#[derive(Clone, Copy)]
 pub struct Cycle {
     pub grant: u32,
     pub access: u32,
@@ -198,7 +198,7 @@ pub fn after(clock: Clock, grant: u32) -> Clock
 // ---- until the command ends
 
 // How far a run came, and which address ran over its top in any of its cycles.
-#[derive(Drop)]
+#[derive(Clone, Copy)]
 pub struct Run {
     pub clock: Clock,
     pub granted: u64,

@@ -3,6 +3,8 @@
 // registers and reu are the original's files; dma, memory and timing are in the crate `transfer`, and what needs no more than the eleven
 // registers is in `regs`; each has its part of the original's constants. Four of reu.rs's functions have files of their own: start_dma,
 // finish_dma, bus_action, tick_dma. cycle is run_reu_cycle, from the original's src/memory/memory.rs, and the step over a lent controller.
+#![tactic(auto)]
+
 mod bus_action;
 mod constants;
 mod cycle;

@@ -13,7 +13,7 @@ use regs::{
 use transfer::{Dma, Passed, Put, ReuBusAction, chip_mark, clear};
 
 // The eleven registers beside the running command. The storage is the host's; `attached` says that it is there.
-#[derive(Drop)]
+#[derive(Clone, Copy)]
 pub struct Reu {
     pub regs: [u8; REGISTER_COUNT],
     pub shadow_c64_addr: u16,
@@ -38,14 +38,14 @@ pub struct Reu {
 }
 
 // What `read` answers: the byte, and the controller after it.
-#[derive(Drop)]
+#[derive(Clone, Copy)]
 pub struct ReadAnswer {
     pub value: u8,
     pub reu: Reu,
 }
 
 // A grant, the controller after it, and what is written.
-#[derive(Drop)]
+#[derive(Clone, Copy)]
 pub struct BusAnswer {
     pub action: ReuBusAction,
     pub reu: Reu,
@@ -53,14 +53,14 @@ pub struct BusAnswer {
 }
 
 // A truth value, and the controller after the call.
-#[derive(Drop)]
+#[derive(Clone, Copy)]
 pub struct FlagAnswer {
     pub flag: bool,
     pub reu: Reu,
 }
 
 // What a tick answers: whether the command goes on, which address ran over its top, the controller after it, and what is written.
-#[derive(Drop)]
+#[derive(Clone, Copy)]
 pub struct TickAnswer {
     pub flag: bool,
     pub passed: Passed,
@@ -69,7 +69,7 @@ pub struct TickAnswer {
 }
 
 // What a public call answers: the refusal number, 0 if it is accepted, the value, and the controller after it.
-#[derive(Drop)]
+#[derive(Clone, Copy)]
 pub struct Answer {
     pub refusal: u8,
     pub value: u32,
@@ -78,7 +78,7 @@ pub struct Answer {
 
 // What a tick and a cycle answer: the refusal number, 0 if it is accepted, whether the command goes on or, of a cycle, whether the
 // processor is held, which address ran over its top, and the controller after it.
-#[derive(Drop)]
+#[derive(Clone, Copy)]
 pub struct StepAnswer {
     pub refusal: u8,
     pub flag: bool,
@@ -87,7 +87,7 @@ pub struct StepAnswer {
 }
 
 // What the step over a lent controller answers: the same, without the controller.
-#[derive(Drop)]
+#[derive(Clone, Copy)]
 pub struct Stepped {
     pub refusal: u8,
     pub flag: bool,

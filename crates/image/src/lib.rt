@@ -1,4 +1,6 @@
 // The saved machine: a controller as an image, and back. `layout` says where each field stands.
+#![tactic(auto)]
+
 ghost use Rattle.std.specs.Prelude.{◌≡◌};
 ghost use Rattle.controller.specs.Enable.{new_reu};
 ghost use Rattle.image.specs.Open.{open_image, store_image};
@@ -17,7 +19,7 @@ const REFUSED_LENGTH: u8 = 1;
 const REFUSED_FIELD: u8 = 2;
 
 // What opening an image gives: the refusal number, 0 if it is accepted, and the controller, a new one if it is not.
-#[derive(Drop)]
+#[derive(Clone, Copy)]
 pub struct Opened {
     pub refusal: u8,
     pub reu: Reu,

@@ -5,7 +5,7 @@ ghost use Rattle.lines.specs.Clock.{inputs_of, is_pattern, letter_of, next_clock
 
 use text::line::Line;
 
-#[derive(Drop)]
+#[derive(Clone, Copy)]
 pub struct Clock {
     pub cycle: u64,
     // A letter for each of the following cycles; past the end BA is high.

@@ -1,5 +1,7 @@
 // The monitor's lines: what may be typed and what is wrong with one, the words of memory and of time, and two panes side by side. Nothing
 // here needs the controller.
+#![tactic(auto)]
+
 pub mod beside;
 pub mod clock;
 pub mod commands;

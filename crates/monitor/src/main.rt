@@ -1,4 +1,6 @@
 // A monitor for the 8726: the registers, stepping by bus cycle, FF00, and saved machines, in a terminal.
+#![tactic(auto)]
+
 mod files;
 mod help;
 mod input;

@@ -1,5 +1,7 @@
 // The tables of Moser's Technical Reference as document 01 carries them, through the exported calls. Writes how many
 // lines agree.
+#![tactic(auto)]
+
 use image::layout::IMAGE_BYTES;
 use script::*;
 

@@ -2,6 +2,8 @@
 // takes from them, and what a transfer and its end leave in them. Values alone, as in `transfer`.
 //
 // constants and registers are the original's files; start_dma and finish_dma have what these two of its functions do with registers.
+#![tactic(auto)]
+
 mod constants;
 mod finish_dma;
 mod registers;

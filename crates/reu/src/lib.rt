@@ -1,5 +1,7 @@
 // The exported calls: a controller by its image, and the bus and the storage that the host lends.
 // Each answers a value, or 16,777,216 times a refusal number, and then nothing that is lent has changed.
+#![tactic(auto)]
+
 ghost use Rattle.std.specs.Prelude.{◌≡◌};
 ghost use Rattle.reu.specs.Exports.{changed, code, refusal, reu_bus_action, reu_c64_access, reu_capacity_bytes, reu_cpu_ready, reu_cycle, reu_debug_register, reu_dma_active, reu_new, reu_read, reu_reset, reu_set_enabled, reu_set_size, reu_storage_present, reu_tick_dma, reu_trigger_ff00, reu_write};
 ghost use Rattle.reu.specs.Inner.{Carried, Kept};

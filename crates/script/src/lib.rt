@@ -10,6 +10,8 @@
 // A script is played for each line of a table. A line is one number too: its last two hexadecimal digits say
 // which cases to play, and the others are columns that a row may add to its value or to its place:
 //     MASK + BYTE + 4 * COLUMN      writes the line's digits 5 and 4 to the mask (digit 0 is the last)
+#![tactic(auto)]
+
 mod controller_rows;
 mod cycle_rows;
 mod lent_rows;

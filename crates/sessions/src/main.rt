@@ -1,4 +1,6 @@
 // The sixteen recorded sessions of document 01, through the exported calls. Writes how many agree.
+#![tactic(auto)]
+
 use image::layout::IMAGE_BYTES;
 use script::*;
 

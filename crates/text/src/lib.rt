@@ -1,4 +1,6 @@
 // What the monitor shows and what it is told, as text: lines, numbers, and what is wrong with one that was typed.
+#![tactic(auto)]
+
 pub mod bytes;
 pub mod faults;
 pub mod line;

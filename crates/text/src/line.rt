@@ -9,7 +9,7 @@ use crate::number::{Number, value_of};
 
 pub const WIDTH: usize = 160;
 
-#[derive(Drop)]
+#[derive(Clone, Copy)]
 pub struct Line {
     pub bytes: [u8; 160],
     pub used: usize,

@@ -8,7 +8,7 @@ use crate::constants::{
 };
 use crate::memory::{C64Address, ExpansionAddress, Seen, seen_at};
 
-#[derive(Drop)]
+#[derive(Clone, Copy)]
 pub enum TransferType {
     Store,
     Recall,
@@ -16,14 +16,14 @@ pub enum TransferType {
     Verify,
 }
 
-#[derive(Drop)]
+#[derive(Clone, Copy)]
 pub enum SwapPhase {
     ReadC64,
     WriteC64,
 }
 
 // A swap takes two cycles for each byte, and its latch holds the storage's byte between them. Other types stay in the read phase.
-#[derive(Drop)]
+#[derive(Clone, Copy)]
 pub struct DmaState {
     pub transfer_type: TransferType,
     pub swap_phase: SwapPhase,
@@ -40,21 +40,21 @@ pub struct DmaState {
 }
 
 // The running command.
-#[derive(Drop)]
+#[derive(Clone, Copy)]
 pub enum Dma {
     Idle,
     Running(DmaState),
 }
 
 // Which address ran over its top in a byte that was completed: the C64's from $FFFF to 0, the expansion's from $FFFFFF to 0.
-#[derive(Drop)]
+#[derive(Clone, Copy)]
 pub struct Passed {
     pub c64: bool,
     pub expansion: bool,
 }
 
 // What completing a byte answers: whether it was the last, which address ran over its top, and the transfer after it.
-#[derive(Drop)]
+#[derive(Clone, Copy)]
 pub struct Completed {
     pub done: bool,
     pub passed: Passed,

@@ -2,6 +2,8 @@
 // byte does, the grant of a cycle. Values alone: nothing here is refused, and no function asks anything of its caller.
 //
 // constants, dma, memory and timing are the original's files; constants has here what a transfer needs.
+#![tactic(auto)]
+
 mod constants;
 mod dma;
 mod memory;

@@ -5,15 +5,15 @@ ghost use Rattle.transfer.specs.Memory.{bus_byte, chip_mark, is_size, lines, nex
 use crate::constants::{CAPACITY_WITHOUT_MARK, EXPANSION_ADDRESS_LIMIT, FEWEST_LINES, MOST_LINES};
 
 // A C64 address, 16 bits.
-#[derive(Drop)]
+#[derive(Clone, Copy)]
 pub struct C64Address(pub u16);
 
 // An expansion address, 24 bits.
-#[derive(Drop)]
+#[derive(Clone, Copy)]
 pub struct ExpansionAddress(pub u32);
 
 // An offset in the storage, after folding.
-#[derive(Drop)]
+#[derive(Clone, Copy)]
 pub struct Offset(pub u32);
 
 // How many address lines a storage of this size has connected.
@@ -95,7 +95,7 @@ fn storage_byte(size: u32, storage: &[u8], addr: ExpansionAddress) -> u8
 }
 
 // The two bytes at a transfer's place.
-#[derive(Drop)]
+#[derive(Clone, Copy)]
 pub struct Seen {
     pub bus: u8,
     pub storage: u8,
@@ -117,7 +117,7 @@ pub fn seen_at(
 }
 
 // What a grant or a tick writes: at most one byte.
-#[derive(Drop)]
+#[derive(Clone, Copy)]
 pub enum Put {
     Nothing,
     Bus(C64Address, u8),

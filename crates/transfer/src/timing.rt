@@ -8,7 +8,7 @@ use crate::dma::{Dma, SwapPhase, TransferType};
 use crate::memory::{C64Address, Put};
 
 // The decision for one cycle: no command owns the bus; the command waits while BA is low; one phase advances.
-#[derive(Drop)]
+#[derive(Clone, Copy)]
 pub enum ReuBusAction {
     Cpu,
     Hold,
@@ -16,7 +16,7 @@ pub enum ReuBusAction {
 }
 
 // What the next granted cycle does on the C64's bus.
-#[derive(Drop)]
+#[derive(Clone, Copy)]
 pub enum ReuC64Access {
     None,
     Read(C64Address),

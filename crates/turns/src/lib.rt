@@ -1,4 +1,6 @@
 // The claims about the monitor's turns and cycles. Each function does nothing: its `ensures` is the claim.
+#![tactic(auto)]
+
 ghost use Rattle.turns.specs.Cycles.{GrantsAreTaken};
 ghost use Rattle.turns.specs.Turns.{FaultsChangeNothing, StepsAreCycles};
 
