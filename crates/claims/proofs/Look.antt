@@ -171,7 +171,7 @@ module _ (k : Held) (st : Start k) where
 
   unfixed : byte k 10 / 64 ≡ 0
   unfixed =
-      upper_bits (byte k 10) (st.image-bytes.below 10) (bit_zero (byte k 10) 6 st.exp_unfixed) (bit_zero (byte k 10) 7 st.c64_unfixed)
+      upper_bits (byte k 10) (st.image_bytes.below 10) (bit_zero (byte k 10) 6 st.exp_unfixed) (bit_zero (byte k 10) 7 st.c64_unfixed)
 
   pub opened_idling : Idling (opened k)
   unfolding reu_at

@@ -72,7 +72,7 @@ module _ (r : Reu) (typed : Typed r) (ok : well_formed r ≡ true) where
   numbers_below : Below (values fields) (numbers_of r)
   numbers_below =
       below_append (radices register_count) r.regs (drop register_count (values fields)) (other_numbers r)
-      (bytes_below register_count r.regs typed.regs-bytes.below typed.regs_long)
+      (bytes_below register_count r.regs typed.regs_bytes.below typed.regs_long)
       (below_with r.dma typed.dma_fits (well_range r ok))
 
   pub pack_long : length (pack_image r) ≡ image_size

@@ -117,7 +117,7 @@ dma_sound a (Running d) h e = transfer_sound a d h e
 regs_fit : (u : Reu) → Typed u → well_formed u ≡ true → (i : ℕ) → FitsRegister (chip_mark u.size) i (reg u i)
 regs_fit u t e i =
     record {
-      byte = t.regs-bytes.below i;
+      byte = t.regs_bytes.below i;
       mark = λ z. ap (λ (j : ℕ). bit (reg u j) version) z ∙ beq_same (bit (reg u 0) version) (chip_mark u.size) (snd (is_size u.size) _ (well_size_lem u e));
     }
 

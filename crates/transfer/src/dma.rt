@@ -63,6 +63,7 @@ pub struct Completed {
 
 impl TransferType {
     // The type by its number, bits 0 and 1 of a command.
+    #[tactic(auto, unfolding(crate::specs::Dma::type_of))]
     pub fn from_command(command: u8) -> TransferType
         ensures { result ≡ type_of command }
     {
@@ -172,6 +173,7 @@ fn left_after(remaining: u32) -> u32
 
 impl DmaState {
     // The only place where the counters move.
+    #[tactic(auto, unfolding(crate::specs::Dma::complete_byte))]
     pub fn complete_byte(self) -> Completed
         ensures { result ≡ complete_byte self }
     {

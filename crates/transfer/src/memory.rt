@@ -17,6 +17,7 @@ pub struct ExpansionAddress(pub u32);
 pub struct Offset(pub u32);
 
 // How many address lines a storage of this size has connected.
+#[tactic(auto, unfolding(crate::specs::Memory::lines))]
 fn lines(size: u64) -> u32
     ensures { result ≡ lines size }
 {
@@ -24,6 +25,7 @@ fn lines(size: u64) -> u32
 }
 
 // A size that may be set, in bytes.
+#[tactic(auto, unfolding(crate::specs::Memory::is_size))]
 pub fn is_size(size: u64) -> bool
     ensures { result ≡ is_size size }
 {

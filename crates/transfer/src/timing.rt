@@ -23,6 +23,7 @@ pub enum ReuC64Access {
     Write(C64Address),
 }
 
+#[tactic(auto, unfolding(crate::specs::Timing::action_for_cycle))]
 pub fn action_for_cycle(dma_active: bool, ba_high: bool) -> ReuBusAction
     ensures { result ≡ action_for_cycle dma_active ba_high }
 {

@@ -56,7 +56,7 @@ module _ (u : Reu) (m s : List ℕ) (high phi1 : Bool) (number : ℕ) (low : Boo
     granted : bus_action_call u s high phi1 number ≡ granted_answer g
     unfolding bus_action_call checked
     granted =
-        let bus : bus_size ≡ length m = sym (lengths u k (length m) (length s) refl y).bus-length in
+        let bus : bus_size ≡ length m = sym (lengths u k (length m) (length s) refl y).bus_length in
         let none : l ≡ 0 = ap (λ (x : ℕ). refusal_of u x (length s)) bus ∙ y in
         λ j. cond (eq-eqb l 0 none j) (granted_answer g) (refused u l, s)
 
