@@ -28,6 +28,7 @@ fn long_of(lo: u8, hi: u8, bank: u8) -> u32
 }
 
 // Length 0 means 65,536, in the two length registers and in the two bytes that a saved transfer has for what remains.
+#[tactic(auto, unfolding(transfer::specs::Dma::length_of))]
 pub fn length_of(n: u16) -> u32
     ensures { result ≡ length_of n }
 {
@@ -38,6 +39,7 @@ pub fn length_of(n: u16) -> u32
     }
 }
 
+#[tactic(auto, unfolding(crate::specs::StartDma::requested))]
 pub fn requested(regs: [u8; REGISTER_COUNT]) -> DmaState
     ensures { result ≡ requested regs }
 {
