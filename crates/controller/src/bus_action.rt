@@ -9,6 +9,7 @@ use regs::{COMMAND, COMMAND_FF00_DISABLE};
 use transfer::{Put, ReuBusAction, ReuC64Access, action_for_cycle};
 
 impl Reu {
+    #[tactic(auto, unfolding(crate::specs::Timing::c64_access))]
     pub(crate) fn next_access(self) -> ReuC64Access
         ensures { result ≡ c64_access self }
     {
@@ -28,6 +29,7 @@ impl Reu {
         }
     }
 
+    #[tactic(auto, unfolding(crate::specs::BusAction::plain))]
     fn plain(self, ba_high: bool) -> BusAnswer
         ensures { result ≡ plain self ba_high }
     {
@@ -36,6 +38,7 @@ impl Reu {
     }
 
     // An immediate recall whose first byte meets a fall repeats its latch.
+    #[tactic(auto, unfolding(crate::specs::BusAction::repeated))]
     fn repeat(mut self, falling: bool) -> Reu
         ensures { result ≡ repeated self falling }
     {
@@ -49,6 +52,7 @@ impl Reu {
         self
     }
 
+    #[tactic(auto, unfolding(crate::specs::BusAction::fall_on_read))]
     fn fall_on_read(mut self) -> BusAnswer
         ensures { result ≡ fall_on_read self }
     {
@@ -66,6 +70,7 @@ impl Reu {
         self.granted(hold)
     }
 
+    #[tactic(auto, unfolding(crate::specs::BusAction::fall_on_swap_write))]
     fn fall_on_swap_write(mut self, late: bool) -> BusAnswer
         ensures { result ≡ fall_on_swap_write self late }
     {
@@ -81,6 +86,7 @@ impl Reu {
         BusAnswer { action, reu, put }
     }
 
+    #[tactic(auto, unfolding(crate::specs::BusAction::fall_on_write))]
     fn fall_on_write(self) -> BusAnswer
         ensures { result ≡ fall_on_write self }
     {
@@ -94,6 +100,7 @@ impl Reu {
     }
 
     // BA falls.
+    #[tactic(auto, unfolding(crate::specs::BusAction::fall))]
     fn fall(self, late: bool) -> BusAnswer
         ensures { result ≡ fall self late }
     {
@@ -115,6 +122,7 @@ impl Reu {
     }
 
     // The terminal pair, the delay, then the fall or the plain rule.
+    #[tactic(auto, unfolding(crate::specs::BusAction::decide))]
     fn decide(mut self, ba_high: bool, falling: bool, late: bool) -> BusAnswer
         ensures { result ≡ decide self ba_high falling late }
     {
@@ -149,6 +157,7 @@ impl Reu {
         self
     }
 
+    #[tactic(auto, unfolding(crate::specs::BusAction::next_action))]
     pub(crate) fn next_action(self, ba_high: bool, ba_high_phi1: bool, cycle: u64) -> BusAnswer
         ensures { result ≡ next_action self ba_high ba_high_phi1 cycle }
     {

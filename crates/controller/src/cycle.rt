@@ -9,6 +9,7 @@ use transfer::ReuBusAction;
 
 impl Reu {
     // One more granted cycle.
+    #[tactic(auto, unfolding(crate::specs::Cycle::counted))]
     fn counted(mut self) -> Reu
         ensures { result ≡ counted self }
     {
@@ -21,6 +22,7 @@ impl Reu {
         self
     }
 
+    #[tactic(auto, unfolding(crate::specs::Cycle::cycle_by))]
     fn cycle_by(
         self,
         action: ReuBusAction,

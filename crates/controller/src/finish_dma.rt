@@ -8,6 +8,7 @@ use transfer::{Dma, DmaState};
 
 impl Reu {
     // This only ever raises the interrupt.
+    #[tactic(auto, unfolding(crate::specs::FinishDma::update_irq))]
     pub(crate) fn update_irq(mut self) -> Reu
         ensures { result ≡ update_irq self }
     {
@@ -19,6 +20,7 @@ impl Reu {
         self
     }
 
+    #[tactic(auto, unfolding(crate::specs::FinishDma::publish_live_counters))]
     pub(crate) fn publish_live_counters(mut self, dma: DmaState) -> Reu
         ensures { result ≡ publish_live_counters self dma }
     {
@@ -30,6 +32,7 @@ impl Reu {
         self
     }
 
+    #[tactic(auto, unfolding(crate::specs::FinishDma::finish_dma))]
     pub(crate) fn finish_dma(self, dma: DmaState, completed: bool) -> Reu
         ensures { result ≡ finish_dma self dma completed }
     {

@@ -20,6 +20,7 @@ fn well_size(size: u32, status: u8) -> bool
 }
 
 impl Reu {
+    #[tactic(auto, unfolding(crate::specs::Refusals::well_formed))]
     pub fn well_formed(self) -> bool
         ensures { result ≡ well_formed self }
     {
@@ -31,6 +32,7 @@ impl Reu {
     }
 
     // The refusal number of a call that lends a bus and a storage of these lengths, 0 if it is accepted. A call that lends none passes the right one.
+    #[tactic(auto, unfolding(crate::specs::Refusals::refusal_of))]
     pub(crate) fn refusal(self, bus: usize, storage: usize) -> u8
         ensures { result ≡ refusal_of self bus storage }
     {
@@ -47,6 +49,7 @@ impl Reu {
     }
 
     // The refusal number of setting a size, 0 if it is accepted. All 64 bits count.
+    #[tactic(auto, unfolding(crate::specs::Refusals::size_refusal))]
     pub(crate) fn size_refusal(self, size: u64) -> u8
         ensures { result ≡ size_refusal self size }
     {

@@ -17,6 +17,7 @@ use regs::{
 
 impl Reu {
     // Reading STATUS acknowledges the events, after the old byte is answered.
+    #[tactic(auto, unfolding(crate::specs::Registers::read_register))]
     pub(crate) fn read_register(self, addr: u16) -> ReadAnswer
         ensures { result ≡ read_register self addr }
     {
@@ -41,6 +42,7 @@ impl Reu {
     }
 
     // With bit 7 a command begins at once, or is armed for the access to $FF00.
+    #[tactic(auto, unfolding(crate::specs::Registers::write_command))]
     fn write_command(mut self, value: u8) -> Reu
         ensures { result ≡ write_command self value }
     {
@@ -106,6 +108,7 @@ impl Reu {
         self
     }
 
+    #[tactic(auto, unfolding(crate::specs::Registers::write_register))]
     pub(crate) fn write_register(self, addr: u16, value: u8) -> Reu
         ensures { result ≡ write_register self addr value }
     {
@@ -126,6 +129,7 @@ impl Reu {
     }
 
     // What a register holds; nothing changes, and the index is not folded.
+    #[tactic(auto, unfolding(crate::specs::Registers::debug_register))]
     pub(crate) fn register_at(self, index: u64) -> u8
         ensures { result ≡ debug_register self index }
     {

@@ -159,6 +159,7 @@ impl Reu {
     }
 
     // Another size, with its mark in STATUS.
+    #[tactic(auto, unfolding(crate::specs::Enable::set_size))]
     pub(crate) fn sized(mut self, size: u32) -> Reu
         ensures { result ≡ set_size self size }
     {
@@ -180,6 +181,7 @@ impl Reu {
     }
 
     // The first enabling attaches the storage and clears it.
+    #[tactic(auto, unfolding(crate::specs::Enable::set_enabled))]
     pub(crate) fn switched(mut self, storage: &mut [u8], enabled: bool) -> Reu
         ensures { (result, storage.new) ≡ set_enabled self storage.old enabled }
     {
@@ -259,6 +261,7 @@ impl Reu {
     }
 
     // Hard and soft reset do the same.
+    #[tactic(auto, unfolding(crate::specs::Calls::reset_call))]
     pub fn reset(self, _hard_reset: bool) -> Answer
         ensures { result ≡ reset_call self }
     {
@@ -277,24 +280,28 @@ impl Reu {
         reu.answered(0)
     }
 
+    #[tactic(auto, unfolding(crate::specs::Calls::storage_present_call))]
     pub fn storage_present(self) -> Answer
         ensures { result ≡ storage_present_call self }
     {
         self.tested(flag_number(self.attached), self)
     }
 
+    #[tactic(auto, unfolding(crate::specs::Calls::capacity_bytes_call))]
     pub fn capacity_bytes(self) -> Answer
         ensures { result ≡ capacity_bytes_call self }
     {
         self.tested(self.capacity(), self)
     }
 
+    #[tactic(auto, unfolding(crate::specs::Calls::trigger_call))]
     pub fn trigger_ff00(self) -> Answer
         ensures { result ≡ trigger_call self }
     {
         self.tested(0, self.trigger())
     }
 
+    #[tactic(auto, unfolding(crate::specs::Calls::read_call))]
     pub fn read(self, addr: u16) -> Answer
         ensures { result ≡ read_call self addr }
     {
@@ -303,12 +310,14 @@ impl Reu {
         self.tested(out.value as u32, reu)
     }
 
+    #[tactic(auto, unfolding(crate::specs::Calls::write_call))]
     pub fn write(self, addr: u16, value: u8) -> Answer
         ensures { result ≡ write_call self addr value }
     {
         self.tested(0, self.write_register(addr, value))
     }
 
+    #[tactic(auto, unfolding(crate::specs::Calls::dma_active_call))]
     pub fn dma_active(self) -> Answer
         ensures { result ≡ dma_active_call self }
     {
@@ -316,6 +325,7 @@ impl Reu {
         self.tested(flag_number(dma.is_active()), self)
     }
 
+    #[tactic(auto, unfolding(crate::specs::Calls::cpu_ready_call))]
     pub fn cpu_ready_after_dma(self, ba_high: bool) -> Answer
         ensures { result ≡ cpu_ready_call self ba_high }
     {
@@ -324,6 +334,7 @@ impl Reu {
         self.tested(flag_number(out.flag), reu)
     }
 
+    #[tactic(auto, unfolding(crate::specs::Calls::debug_register_call))]
     pub fn debug_register(self, index: u64) -> Answer
         ensures { result ≡ debug_register_call self index }
     {
@@ -331,6 +342,7 @@ impl Reu {
         self.tested(value as u32, self)
     }
 
+    #[tactic(auto, unfolding(crate::specs::Calls::c64_access_call))]
     pub fn c64_access(self) -> Answer
         ensures { result ≡ c64_access_call self }
     {

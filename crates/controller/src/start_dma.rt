@@ -22,6 +22,7 @@ impl Reu {
     }
 
     // With storage the count of granted cycles begins anew. Without it only bit 7 of COMMAND falls.
+    #[tactic(auto, unfolding(crate::specs::StartDma::start_dma))]
     pub(crate) fn start_dma(self) -> Reu
         ensures { result ≡ start_dma self }
     {
@@ -77,6 +78,7 @@ impl Reu {
     }
 
     // The trigger starts an armed command whose bit 7 is still set.
+    #[tactic(auto, unfolding(crate::specs::StartDma::trigger_ff00))]
     pub(crate) fn trigger(self) -> Reu
         ensures { result ≡ trigger_ff00 self }
     {

@@ -65,6 +65,7 @@ impl Reu {
         }
     }
 
+    #[tactic(auto, unfolding(crate::specs::TickDma::tick_store))]
     fn tick_store(self, d: DmaState, seen: Seen, ba_low: bool) -> TickAnswer
         ensures { result ≡ tick_store self d seen ba_low }
     {
@@ -73,6 +74,7 @@ impl Reu {
         self.advance(d, false, ba_low, put)
     }
 
+    #[tactic(auto, unfolding(crate::specs::TickDma::tick_recall))]
     fn tick_recall(self, d: DmaState, seen: Seen, ba_low: bool) -> TickAnswer
         ensures { result ≡ tick_recall self d seen ba_low }
     {
@@ -86,6 +88,7 @@ impl Reu {
         reu.advance(next, false, ba_low, put)
     }
 
+    #[tactic(auto, unfolding(crate::specs::TickDma::swap_read))]
     fn swap_read(self, d: DmaState, seen: Seen, cycle: u64) -> TickAnswer
         ensures { result ≡ swap_read self d seen cycle }
     {
@@ -94,6 +97,7 @@ impl Reu {
         self.running(d.latched(seen, cycle)).quiet_tick(true, put)
     }
 
+    #[tactic(auto, unfolding(crate::specs::TickDma::swap_write))]
     fn swap_write(self, d: DmaState, ba_low: bool) -> TickAnswer
         ensures { result ≡ swap_write self d ba_low }
     {
@@ -102,6 +106,7 @@ impl Reu {
         self.advance(d, false, ba_low, put)
     }
 
+    #[tactic(auto, unfolding(crate::specs::TickDma::tick_swap))]
     fn tick_swap(
         self,
         phase: SwapPhase,
@@ -127,6 +132,7 @@ impl Reu {
         self
     }
 
+    #[tactic(auto, unfolding(crate::specs::TickDma::tick_verify))]
     fn tick_verify(self, d: DmaState, seen: Seen, ba_low: bool) -> TickAnswer
         ensures { result ≡ tick_verify self d seen ba_low }
     {
@@ -136,6 +142,7 @@ impl Reu {
         reu.advance(d, error, ba_low, put)
     }
 
+    #[tactic(auto, unfolding(crate::specs::TickDma::tick_refresh))]
     fn tick_refresh(self, d: DmaState, seen: Seen, cycle: u64) -> TickAnswer
         ensures { result ≡ tick_refresh self d seen cycle }
     {
@@ -148,6 +155,7 @@ impl Reu {
         open.running(next).quiet_tick(true, put)
     }
 
+    #[tactic(auto, unfolding(crate::specs::TickDma::tick_tail))]
     fn tick_tail(self, d: DmaState, seen: Seen) -> TickAnswer
         ensures { result ≡ tick_tail self d seen }
     {
@@ -156,6 +164,7 @@ impl Reu {
         self.finish_dma(d, !error).quiet_tick(false, put)
     }
 
+    #[tactic(auto, unfolding(crate::specs::TickDma::tick_by_type))]
     fn tick_by_type(
         self,
         kind: TransferType,
@@ -175,6 +184,7 @@ impl Reu {
         }
     }
 
+    #[tactic(auto, unfolding(crate::specs::TickDma::tick_running))]
     fn tick_running(self, d: DmaState, seen: Seen, cycle: u64, ba_low: bool) -> TickAnswer
         ensures { result ≡ tick_running self d seen cycle ba_low }
     {
@@ -188,6 +198,7 @@ impl Reu {
         self.tick_by_type(kind, d, seen, cycle, ba_low)
     }
 
+    #[tactic(auto, unfolding(crate::specs::TickDma::tick_of))]
     fn tick_of(self, dma: Dma, seen: Seen, cycle: u64, ba_low: bool) -> TickAnswer
         ensures { result ≡ tick_of dma self seen cycle ba_low }
     {
@@ -206,6 +217,7 @@ impl Reu {
     }
 
     // One granted cycle advances one phase.
+    #[tactic(auto, unfolding(crate::specs::TickDma::tick_dma))]
     pub(crate) fn tick(
         self,
         bus: &mut [u8],
