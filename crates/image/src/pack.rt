@@ -176,7 +176,7 @@ pub(crate) fn pack(out: &mut [u8], reu: Reu)
 {
     let regs = reu.regs;
     let dma = reu.dma;
-    bytes::copy(&regs, out);
+    out[..SHADOW_C64].copy_from_slice(&regs);
     put(
         out,
         SHADOW_C64,
