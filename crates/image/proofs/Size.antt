@@ -6,7 +6,6 @@ use mathlib.Core.List.{List, [], ◌∷◌}
 use Prim.Native.Nat.{ℕ, zero, suc, ◌+◌, ◌*◌, ◌/◌, ◌%◌, ◌^◌, ◌≤◌, ◌<◌}
 use native.Mathlib.Omega.{arith}
 use lib.Dec.{eqb}
-use lib.ListN.{length}
 use Rattle.transfer.specs.Bytes.{bit}
 use Rattle.transfer.specs.Memory.{is_size}
 use Rattle.transfer.proofs.Bits.{bit_div, bit_digit}

@@ -1,5 +1,5 @@
 -- A bit by its mask and by its digit: the code tests a mask, and an image's byte is a sum of digits.
-use Rattle.std.proofs.Common.{◌≡◌, ℕ, zero, suc, ◌+◌, ◌*◌, ◌/◌, ◌%◌, ◌^◌, ◌<◌, ◌≤◌, Bool, true, false, not, eqb, sym, refl, ap, ◌∙◌, mod-lt, one-mul, zero-mul, arith, pow_pos, eq-eqb, ne_eqb, eqb-true}
+use Rattle.std.proofs.Common.{◌≡◌, ℕ, zero, suc, ◌*◌, ◌/◌, ◌%◌, ◌^◌, ◌<◌, ◌≤◌, Bool, true, false, not, eqb, sym, refl, ap, ◌∙◌, mod-lt, one-mul, zero-mul, arith, pow_pos, eq-eqb, ne_eqb, eqb-true}
 use native.Mathlib.Nat.{mod-mod}
 use lib.Pow.{high_ones}
 use lib.Bits.{bit_and, bit_or, and_high, and_shr, and_mod, and_mask, and_zero_r, or_shr, or_mod, or_zero_l, or_zero_r, or_self}

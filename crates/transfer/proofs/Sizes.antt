@@ -1,8 +1,8 @@
 -- Sizes of a storage: which numbers they are, how many lines each has, and folding by them.
-use Rattle.std.proofs.Common.{◌≡◌, ℕ, zero, suc, ◌+◌, ◌-◌, ◌*◌, ◌/◌, ◌%◌, ◌^◌, ◌<◌, ◌≤◌, true, ◌&&◌, eqb, leb, ◌⊎◌, sym, refl, ap, ◌∙◌, subst, inl, inr, le_trans, lt_of_lt_of_le, mod-eq_of_lt, mul_comm, one-mul, pow-suc, sub-add_cancel, arith, pow_pos, pow_mono, shl_exact, eq-eqb, eqb-true, le-leb, leb-true}
+use Rattle.std.proofs.Common.{◌≡◌, ℕ, zero, suc, ◌+◌, ◌-◌, ◌*◌, ◌/◌, ◌%◌, ◌^◌, ◌<◌, ◌≤◌, true, ◌&&◌, eqb, leb, ◌⊎◌, sym, refl, ap, ◌∙◌, inl, inr, lt_of_lt_of_le, mod-eq_of_lt, one-mul, pow-suc, sub-add_cancel, arith, pow_pos, pow_mono, shl_exact, eq-eqb, eqb-true, le-leb, leb-true}
 use lib.Bits.{bit_and, and_mask}
 use lib.Count.{ones_in, ones, ones_step, ones_cat, count_trailing_zeros, under}
-use lib.Pow.{pow-lt, mod-mod-pow}
+use lib.Pow.{mod-mod-pow}
 use Rattle.transfer.specs.Memory.{lines, is_size}
 use Rattle.transfer.proofs.Pick.{fst, snd}
 
