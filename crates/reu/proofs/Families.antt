@@ -10,7 +10,6 @@ use Rattle.controller.specs.declared.reu.Reu.{Reu}
 use Rattle.controller.specs.declared.reu.StepAnswer.{StepAnswer}
 use Rattle.controller.specs.TickDma.{Ticked}
 use Rattle.controller.specs.Calls.{numbered}
-use Rattle.controller.specs.Refusals.{checked}
 use Rattle.controller.proofs.Checked.{done, not_done}
 use Rattle.image.specs.declared.Opened.{Opened}
 use Rattle.image.specs.Layout.{image_size}

@@ -1,10 +1,5 @@
-use mathlib.Core.Path.{◌≡◌, refl, ◌∙◌, ap}
-use mathlib.Core.Bool.{Bool, true, false, cond}
-use mathlib.Core.List.{List}
-use Prim.Native.Nat.{ℕ}
-use lib.Dec.{eqb}
-use lib.ListN.{length}
-use borrow.Author.Tests.{eqb-true, eqb-false}
+use Rattle.std.proofs.Common.{◌≡◌, ℕ, Bool, true, false, cond, List, length, eqb, ap, refl, ◌∙◌, eqb-true}
+use borrow.Author.Tests.{eqb-false}
 use Rattle.controller.specs.declared.reu.Reu.{Reu}
 use Rattle.controller.specs.Enable.{new_reu}
 use Rattle.controller.specs.Refusals.{well_formed}
@@ -14,9 +9,7 @@ use Rattle.image.proofs.Opening.{store_good, store_other}
 use Rattle.image.proofs.SoundCalls.{sound_new}
 use Rattle.image.proofs.Valid.{sound_well}
 use Rattle.reu.specs.Exports.{refusal, reu_new}
-use borrow.Author.Rules.{rules}
-use Rattle.reu.proofs.reu_new.Statement.{statement}
-use Rattle.reu.proofs.reu_new.Tie as tie
+use Rattle.reu.proofs.reu_new.Goals as goal
 
 new_well : well_formed new_reu ≡ true
 new_well = sound_well new_reu sound_new
@@ -34,16 +27,7 @@ stored_new i = go (eqb (length i) image_size) refl
     go true e = ap coded (store_good new_reu i (eqb-true (length i) image_size e) new_well)
     go false e = ap coded (store_other new_reu i (eqb-false (length i) image_size e))
 
-returns : tie.Need-returns
+pub returns : goal.returns
 returns c =
-    let its-store = c.before.before.before.store in
-    let its-new = c.before.before.before.before.new in
-    let its-args = c.before.before.before.before.before.before.before.args in
     rw c.refused.ensures
-    (ap coded (its-store.ensures ∙ ap (λ (u : Reu). store_image u its-args.image.now) its-new.ensures)
-    ∙ stored_new its-args.image.now)
-
-pub reu_new_spec : {M : Type 1} → statement M
-reu_new_spec =
-    tie.close
-    (tie.spec (λ c κs. search rules) (λ c κs. search rules) (λ c κs. search rules) (λ c. search rules) returns)
+    (ap coded (c.store.ensures ∙ ap (λ (u : Reu). store_image u c.args.image.now) c.new.ensures) ∙ stored_new c.args.image.now)

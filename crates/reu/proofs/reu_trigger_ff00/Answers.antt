@@ -1,0 +1,24 @@
+use Rattle.std.proofs.Common.{sym, subst, rules}
+use Rattle.controller.specs.Calls.{trigger_call}
+use Rattle.reu.proofs.Families.{change_refused, change_done, long, sound, bytes_of}
+use Rattle.reu.proofs.Wholes.{trigger_whole}
+use Rattle.reu.specs.Inner.{Whole}
+use Rattle.reu.proofs.reu_trigger_ff00.Goals as goal
+
+pub returns-then-refusal-ne-ACCEPTED : goal.returns-then-refusal-ne-ACCEPTED
+returns-then-refusal-ne-ACCEPTED c =
+    change_refused c.args.image.now c.open-opened.result c.open-opened.ensures c.if-refusal-ne-ACCEPTED.true _ c.refused.ensures trigger_call
+
+pub finish-requires : goal.finish-requires
+finish-requires c =
+    let its_sound = sound c.args.image.now c.open-opened.result c.open-opened.ensures c.if-refusal-ne-ACCEPTED.false (bytes_of c.args.image.now (λ j. search rules)) in
+    record {
+      whole =
+          subst Whole (sym c.trigger_ff00-answer.ensures) (trigger_whole c.open-opened.result.reu its_sound);
+      long = long c.args.image.now c.open-opened.result c.open-opened.ensures c.if-refusal-ne-ACCEPTED.false;
+    }
+
+pub returns : goal.returns
+returns c =
+    change_done c.args.image.now c.open-opened.result c.open-opened.ensures c.if-refusal-ne-ACCEPTED.false trigger_call _ _
+    c.trigger_ff00-answer.ensures c.finish.ensures
