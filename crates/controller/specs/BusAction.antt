@@ -1,5 +1,6 @@
 -- `bus_action`, the grant of a cycle, in the original's order: the rise, the recall's fall, the terminal pair, the delay, the fall rules, the grant record.
-use Rattle.controller.specs.Prelude.{ℕ, ◌-◌, Bool, true, false, not, ◌&&◌, ◌||◌, cond, List, eqb, Put, Nothing, Hold, Transfer, ReuBusAction, Reu, BusAnswer, FlagAnswer}
+use Rattle.std.specs.Prelude.{◌-◌, ◌&&◌, ◌||◌}
+use Rattle.controller.specs.Prelude.{ℕ, Bool, true, false, not, cond, List, eqb, Put, Nothing, Hold, Transfer, ReuBusAction, Reu, BusAnswer, FlagAnswer}
 use Rattle.transfer.specs.Constants.{command, without_ff00}
 use Rattle.transfer.specs.Bytes.{bit}
 use Rattle.controller.specs.Reu.{reg, with_dma, with_history, with_repeat, with_terminal, with_refresh, with_release, with_delay}

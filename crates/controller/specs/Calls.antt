@@ -1,5 +1,6 @@
 -- The public calls on a controller value: "A refusal has value 0 and changes no controller and no byte of anything lent".
-use Rattle.controller.specs.Prelude.{ℕ, ◌+◌, Bool, false, cond, List, length, Passed, Reu, Answer, StepAnswer, Stepped}
+use Rattle.std.specs.Prelude.{◌+◌}
+use Rattle.controller.specs.Prelude.{ℕ, Bool, false, cond, List, length, Passed, Reu, Answer, StepAnswer, Stepped}
 use Rattle.transfer.specs.Constants.{bus_size}
 use Rattle.transfer.specs.Bytes.{bit_of}
 use Rattle.controller.specs.Registers.{read_register, write_register, debug_register}

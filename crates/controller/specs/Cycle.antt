@@ -1,5 +1,6 @@
 -- `run_reu_cycle`: "it asks `bus_action`, ticks on Transfer, and answers false for Cpu, true otherwise". L1 counts the cycles that are granted.
-use Rattle.controller.specs.Prelude.{ℕ, ◌+◌, Bool, true, false, cond, List, leb, Cpu, Hold, Transfer, ReuBusAction, Reu}
+use Rattle.std.specs.Prelude.{◌+◌}
+use Rattle.controller.specs.Prelude.{ℕ, Bool, true, false, cond, List, leb, Cpu, Hold, Transfer, ReuBusAction, Reu}
 use Rattle.controller.specs.Reu.{with_granted}
 use Rattle.controller.specs.BusAction.{bus_action}
 use Rattle.controller.specs.TickDma.{Ticked, quiet_step, ticked, tick_dma}

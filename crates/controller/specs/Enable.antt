@@ -1,5 +1,6 @@
 -- New, reset, the size, and the enable switch.
-use Rattle.controller.specs.Prelude.{ℕ, Bool, true, false, cond, List, [], ◌∷◌, Idle, Reu}
+use Rattle.std.specs.Prelude.{◌∷◌}
+use Rattle.controller.specs.Prelude.{ℕ, Bool, true, false, cond, List, [], Idle, Reu}
 use Rattle.transfer.specs.Constants.{new_size, status, version, without_ff00, bank_ones, mask_ones, control_ones}
 use Rattle.transfer.specs.Bytes.{ones, set_bits, clear_bits}
 use Rattle.controller.specs.Reu.{reg, set_reg, with_power, with_size, with_dma, cleared}

@@ -1,5 +1,6 @@
 -- The visible counters, the interrupt, and the end of a command.
-use Rattle.controller.specs.Prelude.{Bool, ◌||◌, [], ◌∷◌, DmaState, Idle, Reu}
+use Rattle.std.specs.Prelude.{◌||◌, ◌∷◌}
+use Rattle.controller.specs.Prelude.{Bool, [], DmaState, Idle, Reu}
 use Rattle.transfer.specs.Constants.{interrupt}
 use Rattle.transfer.specs.Bytes.{ones}
 use Rattle.regs.specs.FinishDma.{irq_due, marked, counters, finished, autoloaded}

@@ -1,5 +1,6 @@
 -- The ranges of a transfer that passes the test, as facts. No public contract cites this file.
-use Rattle.controller.specs.Prelude.{◌≤◌, ◌<◌, DmaState, Dma, Idle, Running}
+use Rattle.std.specs.Prelude.{◌≤◌, ◌<◌}
+use Rattle.controller.specs.Prelude.{DmaState, Dma, Idle, Running}
 use Rattle.transfer.specs.Constants.{expansion_limit, full_length}
 
 pub record InRange (d : DmaState) : Type 0 where

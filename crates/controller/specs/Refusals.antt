@@ -1,5 +1,6 @@
 -- "Refused, by who can cause it": the refusal numbers of a controller value, of the lengths that are lent with it, and of a size.
-use Rattle.controller.specs.Prelude.{ℕ, Bool, not, ◌&&◌, bool_eq, cond, List, [], ◌∷◌, eqb, leb, ltb, Reu}
+use Rattle.std.specs.Prelude.{◌&&◌, ◌∷◌}
+use Rattle.controller.specs.Prelude.{ℕ, Bool, not, bool_eq, cond, List, [], eqb, leb, ltb, Reu}
 use Rattle.transfer.specs.Constants.{bus_size, expansion_limit, status, version}
 use Rattle.transfer.specs.Bytes.{bit}
 use Rattle.transfer.specs.Memory.{is_size, chip_mark}

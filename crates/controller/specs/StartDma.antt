@@ -1,5 +1,6 @@
 -- A start, at once or by the FF00 trigger.
-use Rattle.controller.specs.Prelude.{false, cond, ◌&&◌, [], ◌∷◌, Running, Reu}
+use Rattle.std.specs.Prelude.{◌&&◌, ◌∷◌}
+use Rattle.controller.specs.Prelude.{false, cond, [], Running, Reu}
 use Rattle.transfer.specs.Constants.{status, command, version, execute}
 use Rattle.transfer.specs.Bytes.{bit, clear_bits, keep_bits}
 use Rattle.regs.specs.StartDma.{requested}

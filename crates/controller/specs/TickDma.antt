@@ -1,5 +1,6 @@
 -- `tick_dma`, one granted cycle of a transfer. It sees the two bytes at the transfer's place, and writes at most one byte.
-use Rattle.controller.specs.Prelude.{ℕ, Bool, true, false, not, ◌&&◌, ◌||◌, cond, List, [], ◌∷◌, eqb, Store, Recall, Swap, Verify, TransferType, SwapPhase, ReadC64, WriteC64, DmaState, Dma, Idle, Running, Seen, Put, Nothing, Bus, Storage, Passed, Reu, StepAnswer, TickAnswer}
+use Rattle.std.specs.Prelude.{◌&&◌, ◌||◌, ◌∷◌}
+use Rattle.controller.specs.Prelude.{ℕ, Bool, true, false, not, cond, List, [], eqb, Store, Recall, Swap, Verify, TransferType, SwapPhase, ReadC64, WriteC64, DmaState, Dma, Idle, Running, Seen, Put, Nothing, Bus, Storage, Passed, Reu, StepAnswer, TickAnswer}
 use Rattle.transfer.specs.Constants.{verify_error}
 use Rattle.transfer.specs.Bytes.{bit, ones}
 use Rattle.regs.specs.FinishDma.{marked}

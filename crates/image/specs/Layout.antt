@@ -1,12 +1,12 @@
 -- The image record: one list of fields, from which packing, opening, the ranges and every place follow.
-use Rattle.controller.specs.Prelude.{ℕ, ◌+◌, ◌-◌, ◌*◌, ◌/◌, ◌%◌, ◌^◌, Bool, cond, List, [], ◌∷◌, eqb, get_or, length, replicate}
+use Rattle.controller.specs.Prelude.{ℕ, Bool, cond, List, [], eqb, get_or, length, replicate}
 use Rattle.transfer.specs.declared.dma.SwapPhase.{SwapPhase}
 use Rattle.transfer.specs.declared.dma.SwapPhase.TheVariants.{ReadC64, WriteC64}
 use Rattle.transfer.specs.declared.dma.DmaState.{DmaState}
 use Rattle.transfer.specs.declared.dma.Dma.{Dma}
 use Rattle.transfer.specs.declared.dma.Dma.TheVariants.{Idle, Running}
 use Rattle.controller.specs.declared.reu.Reu.{Reu}
-use Rattle.std.specs.Prelude.{◌++◌, map, take}
+use Rattle.std.specs.Prelude.{◌++◌, map, take, ◌+◌, ◌-◌, ◌*◌, ◌/◌, ◌%◌, ◌^◌, ◌∷◌}
 use Rattle.transfer.specs.Constants.{register_count, bus_size, expansion_limit, full_length}
 use Rattle.transfer.specs.Bytes.{bit, bit_of}
 use Rattle.transfer.specs.Dma.{type_number, type_of, length_of}

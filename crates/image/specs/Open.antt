@@ -1,6 +1,6 @@
 -- When an image is refused, and what opening and storing one give.
-use Rattle.controller.specs.Prelude.{ℕ, Bool, true, not, ◌&&◌, ◌||◌, List, [], ◌∷◌, eqb, length}
-use Rattle.std.specs.Prelude.{take, drop}
+use Rattle.controller.specs.Prelude.{ℕ, Bool, true, not, List, [], eqb, length}
+use Rattle.std.specs.Prelude.{take, drop, ◌&&◌, ◌||◌, ◌∷◌}
 use Rattle.controller.specs.Enable.{new_reu}
 use Rattle.controller.specs.declared.reu.Reu.{Reu}
 use Rattle.controller.specs.Refusals.{well_formed, first_refusal, checked}

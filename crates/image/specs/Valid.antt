@@ -1,5 +1,6 @@
 -- What the types of a controller's fields say, and that a list is bytes.
-use Rattle.controller.specs.Prelude.{ℕ, ◌^◌, ◌<◌, ◌≡◌, List, get_or, length}
+use Rattle.std.specs.Prelude.{◌^◌, ◌<◌, ◌≡◌}
+use Rattle.controller.specs.Prelude.{ℕ, List, get_or, length}
 use Rattle.transfer.specs.declared.dma.Dma.{Dma}
 use Rattle.transfer.specs.declared.dma.Dma.TheVariants.{Idle, Running}
 use Rattle.controller.specs.declared.reu.Reu.{Reu}

@@ -1,5 +1,6 @@
 -- The visible counters, the interrupt, and what the end of a command leaves in the registers.
-use Rattle.regs.specs.Prelude.{ℕ, Bool, cond, ◌&&◌, ◌||◌, List, [], ◌∷◌, bit_or, set}
+use Rattle.std.specs.Prelude.{◌&&◌, ◌||◌, ◌∷◌}
+use Rattle.regs.specs.Prelude.{ℕ, Bool, cond, List, [], bit_or, set}
 use Rattle.transfer.specs.Constants.{status, command, c64_low, c64_high, exp_low, exp_high, exp_bank, length_low, length_high, interrupt_mask, verify_error, end_of_block, without_ff00, execute, enable_all}
 use Rattle.transfer.specs.Bytes.{bit, ones, set_bits, clear_bits, low_byte, high_byte, bank_byte}
 use Rattle.regs.specs.Registers.{held}

@@ -1,5 +1,6 @@
 -- The register record, byte by byte, in the terms of the public register descriptions.
-use Rattle.regs.specs.Prelude.{ℕ, cond, List, [], ◌∷◌, bit_and, eqb, get_or}
+use Rattle.std.specs.Prelude.{◌∷◌}
+use Rattle.regs.specs.Prelude.{ℕ, cond, List, [], bit_and, eqb, get_or}
 use Rattle.transfer.specs.Constants.{exp_bank, interrupt_mask, address_control, verify_error, end_of_block, interrupt, bank_ones, mask_ones, control_ones}
 use Rattle.transfer.specs.Bytes.{set_bits, clear_bits}
 

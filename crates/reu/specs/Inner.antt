@@ -1,5 +1,6 @@
 -- What the end of a call may assume of the call on the controller. No exported contract cites this file.
-use Rattle.controller.specs.Prelude.{ℕ, ◌≡◌, true, List, length}
+use Rattle.std.specs.Prelude.{◌≡◌}
+use Rattle.controller.specs.Prelude.{ℕ, true, List, length}
 use Rattle.controller.specs.declared.reu.Answer.{Answer}
 use Rattle.controller.specs.Refusals.{well_formed}
 use Rattle.image.specs.Layout.{image_size}

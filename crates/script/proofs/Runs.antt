@@ -1,6 +1,6 @@
 -- Cycles, rows and lines one after another: one is played, and the rest are to come.
 use mathlib.Core.Path.{◌≡◌, refl, sym, ap, ◌∙◌}
-use mathlib.Core.Bool.{Bool, true, false, cond, ◌&&◌, ◌||◌, and_true, or-false}
+use mathlib.Core.Bool.{Bool, true, false, cond, ◌&&◌, ◌||◌, and-true, or-false}
 use mathlib.Core.List.{List, [], ◌∷◌, map}
 use Prim.Native.Nat.{ℕ, zero, suc, ◌+◌, ◌-◌, ◌≤◌, ◌<◌}
 use native.Mathlib.Numerals.{add-one}
@@ -59,7 +59,7 @@ one_row true row rows true x y e = ap (onward (chosen true rows) true) (sym (joi
 one_row true row rows false x y e = ap (onward (chosen true rows) true) (sym (joined x e))
 one_row false row rows found x y e =
     let same : ◌≡◌ {A = Played} (x.0 && y.0, y.1, y.2, y.3) x =
-    joined x e ∙ (λ j. (and_true x.0 j, x.1, x.2, x.3)) in
+    joined x e ∙ (λ j. (and-true x.0 j, x.1, x.2, x.3)) in
     sym
     (ap (λ (b : Bool). onward (chosen false rows) b (x.0 && y.0, y.1, y.2, y.3)) (or-false found)
     ∙ ap (onward (chosen false rows) found) same)

@@ -5,6 +5,7 @@ ghost use Rattle.script.specs.Operations.{controller_row, expansion_row, is_leve
 use crate::operations;
 use image::layout;
 
+#[tactic(auto, unfolding(crate::specs::Operations::write_row))]
 fn write(image: &mut [u8], address: u32, value: u32) -> bool
     ensures { (result, image.new) ≡ write_row address value image.old }
 {
@@ -31,6 +32,7 @@ fn write_expansion(image: &mut [u8], bank: u32, value: u32) -> bool
     low & write(image, 0xDF06, bank)
 }
 
+#[tactic(auto, unfolding(crate::specs::Operations::reads_row))]
 fn reads(image: &mut [u8], address: u32, value: u32) -> bool
     ensures { (result, image.new) ≡ reads_row address value image.old }
 {
@@ -54,6 +56,7 @@ fn shows_pair(image: &[u8], index: u32, value: u32) -> bool
     low & shows(image, index + 1, value / 256)
 }
 
+#[tactic(auto, unfolding(crate::specs::Operations::is_level))]
 fn level_is(image: &[u8], value: u32) -> bool
     ensures { result ≡ is_level value image.now }
 {
@@ -69,6 +72,7 @@ fn set_size(image: &mut [u8], kib: u32) -> bool
     reu::reu_set_size(image, 1024 * (kib as u64)) == 0
 }
 
+#[tactic(auto, unfolding(crate::specs::Operations::controller_row))]
 pub(crate) fn on_controller(operation: u64, place: u32, value: u32, image: &mut [u8]) -> bool
     requires { place < 16777216 }
     ensures { (result, image.new) ≡ controller_row operation place value image.old }

@@ -25,6 +25,7 @@ fn answered(
 }
 
 // The cycles from the first up to the last, which is left out: each answers as it should.
+#[tactic(auto, unfolding(crate::specs::Operations::play_cycles))]
 fn ticks(
     first: u64,
     last: u64,
@@ -64,6 +65,7 @@ fn granted(
     action == value
 }
 
+#[tactic(auto, unfolding(crate::specs::Operations::cycles_row))]
 pub(crate) fn on_cycles(
     operation: u64,
     place: u32,

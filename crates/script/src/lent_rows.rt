@@ -4,6 +4,7 @@ ghost use Rattle.script.specs.Operations.{begin_row, enable_row, is_byte, lent_r
 
 use crate::operations;
 
+#[tactic(auto, unfolding(crate::specs::Operations::set_byte))]
 fn set_byte(memory: &mut [u8], place: u32, value: u32) -> bool
     ensures { (result, memory.new) ≡ set_byte place value memory.old }
 {
@@ -17,6 +18,7 @@ fn set_byte(memory: &mut [u8], place: u32, value: u32) -> bool
     false
 }
 
+#[tactic(auto, unfolding(crate::specs::Operations::is_byte))]
 fn has_byte(memory: &[u8], place: u32, value: u32) -> bool
     ensures { result ≡ is_byte place value memory.now }
 {
@@ -40,6 +42,7 @@ fn begin(image: &mut [u8], storage: &mut [u8]) -> bool
     made & enable(image, storage)
 }
 
+#[tactic(auto, unfolding(crate::specs::Operations::lent_row))]
 pub(crate) fn on_lent(
     operation: u64,
     place: u32,

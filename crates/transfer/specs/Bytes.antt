@@ -1,5 +1,6 @@
 -- Bits of a byte, bytes of a number: the words that every crate's definitions say them with.
-use Rattle.transfer.specs.Prelude.{ℕ, ◌+◌, ◌-◌, ◌*◌, ◌/◌, ◌%◌, ◌^◌, Bool, not, cond, List, [], ◌∷◌, eqb, bit_and, bit_or}
+use Rattle.std.specs.Prelude.{◌+◌, ◌-◌, ◌*◌, ◌/◌, ◌%◌, ◌^◌, ◌∷◌}
+use Rattle.transfer.specs.Prelude.{ℕ, Bool, not, cond, List, [], eqb, bit_and, bit_or}
 
 -- bit n of v is 1
 abbrev pub bit : ℕ → ℕ → Bool

@@ -1,5 +1,6 @@
 -- The numbers of document 01, by name. The register record: which register, which bit. The original's constants.rs.
-use Rattle.transfer.specs.Prelude.{ℕ, List, [], ◌∷◌}
+use Rattle.std.specs.Prelude.{◌∷◌}
+use Rattle.transfer.specs.Prelude.{ℕ, List, []}
 
 -- ---- "0 STATUS, 1 COMMAND, 2/3 C64 address low/high, 4/5/6 expansion address low/high/bank, 7/8 length low/high, 9 interrupt mask, 10 address control"
 

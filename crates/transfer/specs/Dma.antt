@@ -1,5 +1,6 @@
 -- The transfer record: its parts, completing a byte, and when it is refused.
-use Rattle.transfer.specs.Prelude.{ℕ, ◌+◌, ◌-◌, ◌*◌, Bool, true, false, not, ◌&&◌, ◌||◌, cond, List, [], ◌∷◌, eqb, leb, ltb, C64Address, ExpansionAddress, Seen, TransferType, Store, Recall, Swap, Verify, SwapPhase, ReadC64, WriteC64, DmaState, Dma, Idle, Running, Passed, Completed}
+use Rattle.std.specs.Prelude.{◌+◌, ◌-◌, ◌*◌, ◌&&◌, ◌||◌, ◌∷◌}
+use Rattle.transfer.specs.Prelude.{ℕ, Bool, true, false, not, cond, List, [], eqb, leb, ltb, C64Address, ExpansionAddress, Seen, TransferType, Store, Recall, Swap, Verify, SwapPhase, ReadC64, WriteC64, DmaState, Dma, Idle, Running, Passed, Completed}
 use Rattle.transfer.specs.Constants.{expansion_limit, full_length}
 use Rattle.transfer.specs.Bytes.{bit, bit_of, keep_bits}
 use Rattle.transfer.specs.Memory.{next_c64, next_exp, seen_at}

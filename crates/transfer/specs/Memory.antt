@@ -1,6 +1,7 @@
 -- The storage record, and the bytes of the bus.
+use Rattle.std.specs.Prelude.{◌+◌, ◌%◌, ◌^◌, ◌&&◌}
 use Rattle.std.specs.Int.Count.{count_trailing_zeros, ones as count_ones}
-use Rattle.transfer.specs.Prelude.{ℕ, ◌+◌, ◌%◌, ◌^◌, Bool, not, ◌&&◌, eqb, leb, List, get_or, set, length, replicate, C64Address, ExpansionAddress, Offset, Seen, Put, Nothing, Bus, Storage}
+use Rattle.transfer.specs.Prelude.{ℕ, Bool, not, eqb, leb, List, get_or, set, length, replicate, C64Address, ExpansionAddress, Offset, Seen, Put, Nothing, Bus, Storage}
 use Rattle.transfer.specs.Constants.{bus_size, expansion_limit}
 
 -- ---- L4: a size in bytes

@@ -1,5 +1,6 @@
 -- The grant record, what the grant asks of the running command, and the C64 side's next access.
-use Rattle.transfer.specs.Prelude.{ℕ, ◌+◌, ◌*◌, Bool, true, false, not, ◌&&◌, bool_eq, cond, C64Address, TransferType, Store, Recall, Swap, Verify, SwapPhase, ReadC64, WriteC64, Dma, Idle, Running, Put, Nothing, Storage, ReuC64Access, None, Read, Write, ReuBusAction, Cpu, Hold, Transfer}
+use Rattle.std.specs.Prelude.{◌+◌, ◌*◌, ◌&&◌}
+use Rattle.transfer.specs.Prelude.{ℕ, Bool, true, false, not, bool_eq, cond, C64Address, TransferType, Store, Recall, Swap, Verify, SwapPhase, ReadC64, WriteC64, Dma, Idle, Running, Put, Nothing, Storage, ReuC64Access, None, Read, Write, ReuBusAction, Cpu, Hold, Transfer}
 use Rattle.transfer.specs.Bytes.{bit}
 use Rattle.transfer.specs.Dma.{is_type, is_write_phase, runs, with_phase}
 
