@@ -1,5 +1,5 @@
 -- Bytes copied over others, and bytes cleared from a place on.
-use Rattle.std.proofs.Common.{◌≡◌, ℕ, ◌-◌, ◌<◌, ◌≤◌, min, Bool, true, false, leb, List, [], ◌++◌, length, take, drop, sym, refl, ap, ◌∙◌, append-nil, arith, length-drop, drop_of_length-le, length-take, take_all, leb-false, leb-true}
+use Rattle.std.proofs.Common.{◌≡◌, ℕ, ◌-◌, ◌<◌, ◌≤◌, min, Bool, true, false, leb, List, ◌++◌, length, take, drop, sym, refl, ap, ◌∙◌, append-nil, arith, length-drop, drop_of_length-le, length-take, take_all, leb-false, leb-true}
 use Rattle.transfer.specs.Memory.{zeros}
 use Rattle.lines.specs.Files.{copied_over}
 use Rattle.lines.specs.Memory.{cleared_from}

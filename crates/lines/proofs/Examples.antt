@@ -1,5 +1,5 @@
 -- Worked examples of the definitions, with what was expected written by hand: bytes stored, faults, lengths of files, BA, two panes side by side.
-use Rattle.std.proofs.Common.{◌≡◌, true, false, List, [], ◌∷◌, ◌++◌, map, replicate, refl}
+use Rattle.std.proofs.Common.{◌≡◌, true, false, [], ◌∷◌, ◌++◌, map, replicate, refl}
 use Rattle.text.specs.Faults.{fault_of, faults_from}
 use Rattle.text.specs.Shown.{◌⊕◌, ascii, decimal_up_to, fill_from, hex_of}
 use Rattle.text.specs.Typed.{digits_from, number_of, same, word_from, words_from}

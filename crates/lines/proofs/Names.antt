@@ -1,5 +1,5 @@
 -- A word and its place among the names of the commands: a word that has a name's place is that name, and no other word has it.
-use Rattle.std.proofs.Common.{◌≡◌, ℕ, zero, suc, ◌+◌, ◌-◌, ◌<◌, ◌≤◌, Bool, true, false, cond, eqb, List, [], ◌∷◌, ◌++◌, length, get_or, drop, sym, refl, ap, ◌∙◌, subst, append-nil, add-zero, zero-add, add-one, arith, drop_of_length-le, drop-cons, eq-eqb, ne_eqb, eqb-true}
+use Rattle.std.proofs.Common.{◌≡◌, ℕ, zero, suc, ◌+◌, ◌<◌, ◌≤◌, Bool, true, false, cond, eqb, List, [], ◌∷◌, ◌++◌, length, get_or, drop, sym, refl, ap, ◌∙◌, subst, append-nil, add-zero, zero-add, add-one, arith, drop_of_length-le, drop-cons, eq-eqb, ne_eqb, eqb-true}
 use borrow.Author.Tests.{eqb-false}
 use Rattle.text.specs.Typed.{is_blank, same, word_from, word_of}
 use Rattle.lines.specs.Commands.{name_at, names, place_in, place_of}

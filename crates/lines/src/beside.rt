@@ -54,6 +54,7 @@ fn is_shown(agree: bool, every: bool, none: bool) -> bool
 }
 
 // The row of the pane to show, with `*` in front where the two differ; no bytes where it is not shown.
+#[tactic(auto, unfolding(crate::specs::Beside::beside_row))]
 pub fn beside(row: Line, between: u8, other: Line) -> Line
     ensures { text_of result ≡ beside_row (text_of row) between (text_of other) }
 {

@@ -15,6 +15,7 @@ pub struct Clock {
 }
 
 // What a letter says of BA, as three bits: high to the processor, high at the first phase, low to the transfer. 8 for no letter.
+#[tactic(auto, unfolding(crate::specs::Clock::inputs_of))]
 fn inputs_or_none(letter: u8) -> u8
     ensures value { result ≡ inputs_of letter }
     ensures upper_bound { result ≤ 8 }

@@ -69,6 +69,7 @@ pub fn is_change(line: Line) -> bool
 }
 
 // A line with no words, or whose first begins with #.
+#[tactic(auto, unfolding(crate::specs::Commands::is_comment))]
 pub fn is_comment(line: Line) -> bool
     ensures { result ≡ is_comment (text_of line) }
 {
@@ -82,6 +83,7 @@ pub fn is_comment(line: Line) -> bool
 // ---- what is wrong: no bytes where nothing is
 
 // A number that may be left out.
+#[tactic(auto, unfolding(crate::specs::Commands::count_fault))]
 fn count_fault(line: Line) -> Line
     ensures { text_of result ≡ count_fault (text_of line) }
 {
@@ -104,6 +106,7 @@ fn exactly(line: Line, words: usize, usage: &[u8]) -> Line
 }
 
 // A name that would not fit with `.storage` behind it names another file once it is cut.
+#[tactic(auto, unfolding(crate::specs::Commands::file_fault))]
 fn file_fault(line: Line) -> Line
     ensures { text_of result ≡ file_fault (text_of line) }
 {
@@ -118,6 +121,7 @@ fn file_fault(line: Line) -> Line
 }
 
 // BA of the following cycles.
+#[tactic(auto, unfolding(crate::specs::Commands::ba_fault))]
 fn ba_fault(line: Line) -> Line
     ensures { text_of result ≡ ba_fault (text_of line) }
 {
@@ -153,6 +157,7 @@ pub fn size_typed(word: Line) -> u64
     0
 }
 
+#[tactic(auto, unfolding(crate::specs::Commands::size_fault))]
 fn size_fault(line: Line) -> Line
     ensures { text_of result ≡ size_fault (text_of line) }
 {
@@ -211,6 +216,7 @@ fn command_fault(line: Line, last: u32) -> Line
 }
 
 // Of any line. A comment is no fault.
+#[tactic(auto, unfolding(crate::specs::Commands::line_fault))]
 pub fn line_fault(line: Line, last: u32) -> Line
     ensures { text_of result ≡ line_fault (text_of line) last }
 {

@@ -27,12 +27,13 @@ pub fn copy(from: &[u8], to: &mut [u8])
 {
     let room = to.len();
     let part = first(from, room);
-    bytes::copy(part, to);
+    to[..part.len()].copy_from_slice(part);
 }
 
 // ---- a file that has another length than its part needs
 
 // What it has, as far as it was counted: `on` says that it goes on.
+#[tactic(auto, unfolding(crate::specs::Files::length_text))]
 fn length_text(file: Line, got: usize, on: bool) -> Line
     ensures { text_of result ≡ length_text (text_of file) got on }
 {
@@ -50,6 +51,7 @@ fn is_earlier(got: usize) -> bool
 }
 
 // Only an image has a refusal number for this, and only an image may be an earlier release's.
+#[tactic(auto, unfolding(crate::specs::Files::reason_text))]
 fn reason(line: Line, part: u8, got: usize, on: bool) -> Line
     ensures { text_of result ≡ reason_text (text_of line) part got on }
 {

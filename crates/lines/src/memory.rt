@@ -81,6 +81,7 @@ pub fn store(line: Line, memory: &mut [u8])
 }
 
 // What is wrong with an address and bytes after it: no bytes where nothing is.
+#[tactic(auto, unfolding(crate::specs::Memory::store_fault))]
 pub fn store_fault(line: Line, most: u32) -> Line
     ensures { text_of result ≡ store_fault (text_of line) most }
 {
@@ -139,6 +140,7 @@ fn least(a: u32, b: u32) -> u32
 }
 
 // The last address to show.
+#[tactic(auto, unfolding(crate::specs::Memory::end_of))]
 pub fn end_of(line: Line, most: u32) -> u32
     ensures { result ≡ end_of (text_of line) most }
 {
@@ -148,6 +150,7 @@ pub fn end_of(line: Line, most: u32) -> u32
     least(address_of(line) + SHOWN, most)
 }
 
+#[tactic(auto, unfolding(crate::specs::Memory::range_fault))]
 fn range_fault(line: Line, most: u32) -> Line
     ensures { text_of result ≡ range_fault (text_of line) most }
 {
@@ -162,6 +165,7 @@ fn range_fault(line: Line, most: u32) -> Line
 }
 
 // What is wrong with an address and an end that may be left out.
+#[tactic(auto, unfolding(crate::specs::Memory::show_fault))]
 pub fn show_fault(line: Line, most: u32) -> Line
     ensures { text_of result ≡ show_fault (text_of line) most }
 {

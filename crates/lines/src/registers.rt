@@ -8,6 +8,7 @@ use text::faults::{fault, value};
 use text::line::{Line, fill};
 
 // A register's address.
+#[tactic(auto, unfolding(crate::specs::Registers::place_fault))]
 fn place_fault(word: Line) -> Line
     ensures { text_of result ≡ place_fault (text_of word) }
 {
@@ -21,6 +22,7 @@ fn place_fault(word: Line) -> Line
     fill(b"no register at %: they are at DF00 to DF0A", word)
 }
 
+#[tactic(auto, unfolding(crate::specs::Registers::write_fault))]
 pub fn write_fault(line: Line) -> Line
     ensures { text_of result ≡ write_fault (text_of line) }
 {
@@ -31,6 +33,7 @@ pub fn write_fault(line: Line) -> Line
     place_fault(line.word(1))
 }
 
+#[tactic(auto, unfolding(crate::specs::Registers::read_fault))]
 pub fn read_fault(line: Line) -> Line
     ensures { text_of result ≡ read_fault (text_of line) }
 {

@@ -127,6 +127,7 @@ fn expansion(line: Line, visible: u32, shadow: u32) -> Line
     line.hex6(visible).text(b" shadow ").hex6(shadow)
 }
 
+#[tactic(auto, unfolding(crate::specs::Rows::spelled))]
 fn spelled(line: Line, image: &[u8], register: u8) -> Line
     ensures { text_of result ≡ rows_spelled image.now register (text_of line) }
 {
@@ -169,6 +170,7 @@ fn register_row(image: &[u8], register: u8) -> Line
 // ---- beside the registers
 
 // The image's flags, more flags and delay.
+#[tactic(auto, unfolding(crate::specs::Rows::flags_row))]
 fn flags_row(image: &[u8], row: usize) -> Line
     ensures { text_of result ≡ flags_row image.now row }
 {
@@ -190,6 +192,7 @@ fn flags_row(image: &[u8], row: usize) -> Line
 // ---- the size of the storage
 
 // By the code that stands above the two bits of the swap rules.
+#[tactic(auto, unfolding(crate::specs::Rows::size_in))]
 pub fn size_in(image: &[u8]) -> u32
     ensures value { result ≡ size_in image.now }
     ensures result_nonzero { 0 < result }
@@ -215,6 +218,7 @@ pub fn lent(image: &[u8], bytes: &[u8]) -> usize
     if size < most { size } else { most }
 }
 
+#[tactic(auto, unfolding(crate::specs::Rows::storage_row))]
 fn storage_row(image: &[u8]) -> Line
     ensures { text_of result ≡ storage_row image.now }
 {
@@ -235,6 +239,7 @@ fn granted(image: &[u8]) -> u32
 }
 
 // The number is held at its top: there it says that there may have been more.
+#[tactic(auto, unfolding(crate::specs::Rows::granted_row))]
 fn granted_row(image: &[u8]) -> Line
     ensures { text_of result ≡ granted_row image.now }
 {
@@ -251,6 +256,7 @@ fn granted_row(image: &[u8]) -> Line
 
 // ---- the transfer
 
+#[tactic(auto, unfolding(crate::specs::Rows::transfer_row))]
 fn transfer_row(image: &[u8]) -> Line
     ensures { text_of result ≡ transfer_row image.now }
 {
@@ -285,6 +291,7 @@ fn place_row(c64: u32, expansion: u32, left: u32) -> Line
 }
 
 // Nothing where there is no transfer.
+#[tactic(auto, unfolding(crate::specs::Rows::running_row))]
 fn running_row(image: &[u8], row: usize) -> Line
     ensures { text_of result ≡ running_row image.now row }
 {
@@ -313,6 +320,7 @@ fn running_row(image: &[u8], row: usize) -> Line
 // ---- any of them
 
 // What the controller holds; rows 20 on are empty where no command runs.
+#[tactic(auto, unfolding(crate::specs::Rows::held_row))]
 fn held_row(image: &[u8], row: usize) -> Line
     ensures { text_of result ≡ held_row image.now row }
 {
@@ -335,6 +343,7 @@ fn held_row(image: &[u8], row: usize) -> Line
 }
 
 // That an image is refused is said in a row of its own, so that beside an accepted one it stands for none of its rows.
+#[tactic(auto, unfolding(crate::specs::Rows::refused_row))]
 fn refused_row(answer: u32, row: usize) -> Line
     ensures { text_of result ≡ refused_row answer row }
 {

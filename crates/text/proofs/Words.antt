@@ -1,6 +1,6 @@
 -- Words, sameness and faults as a loop finds them: what is left to say at a place of a text, one place further, and at the end.
 use mathlib.Core.Path.{◌≡◌, refl, sym, ◌∙◌, ap}
-use mathlib.Core.Bool.{Bool, true, false, not, cond, ◌&&◌, and_true, and_false}
+use mathlib.Core.Bool.{Bool, true, false, not, cond, ◌&&◌, and-true, and-false}
 use mathlib.Core.List.{List, [], ◌∷◌, ◌++◌, append_assoc, append-nil}
 use Prim.Native.Nat.{ℕ, suc, ◌+◌, ◌-◌, ◌≤◌, ◌<◌}
 use native.Mathlib.Numerals.{add-one}
@@ -68,10 +68,10 @@ picks :
     cond blank (w (ended + cond inside 1 0) false) (cond (eqb ended wanted) (b ∷ []) [] ++ w ended true) ≡
     cond (eqb (ended + cond (inside && blank) 1 0) wanted && not blank) (b ∷ []) [] ++
     w (ended + cond (inside && blank) 1 0) (not blank)
-picks wanted ended true true b w = rw and_false
-picks wanted ended false true b w = rw and_false
-picks wanted ended true false b w = rw (and_true, add-zero)
-picks wanted ended false false b w = rw (and_true, add-zero)
+picks wanted ended true true b w = rw and-false
+picks wanted ended false true b w = rw and-false
+picks wanted ended true false b w = rw (and-true, add-zero)
+picks wanted ended false false b w = rw (and-true, add-zero)
 
 -- nothing is left out of what fits
 fits : (t u a r : List ℕ) {v : List ℕ} → length t ≤ 160 → t ≡ u ++ (a ++ r) → v ≡ u ⊕ a → t ≡ v ++ r

@@ -1,6 +1,6 @@
 -- A line as text, and what is put into one.
 use Rattle.std.specs.Prelude.{ℕ, zero, suc, ◌+◌, ◌-◌, ◌/◌, ◌%◌, Bool, false, cond, List, [], ◌∷◌, ◌++◌, ltb, eqb, length, take, replicate}
-use Prim.Native.Char.{Char, code}
+use Prim.Native.Char.{code}
 use Prim.Native.String.{String, [] as []ˢ, ◌∷◌ as ◌∷ˢ◌}
 use Rattle.transfer.specs.Bytes.{bit, bit_of}
 use Rattle.text.specs.declared.line.Line.{Line}

@@ -9,6 +9,7 @@ use crate::line::{Line, fill};
 use crate::number::Number;
 
 // A number of at most `most`.
+#[tactic(auto, unfolding(crate::specs::Faults::fault_of))]
 pub fn fault(word: Line, most: u32) -> Line
     ensures { text_of result ≡ fault_of (text_of word) most }
 {

@@ -58,6 +58,7 @@ fn digits_of(s: &[u8], from: usize, base: u32) -> Number
     Number::Value(value)
 }
 
+#[tactic(auto, unfolding(crate::specs::Typed::number_of))]
 pub fn value_of(s: &[u8]) -> Number
     ensures { result ≡ number_of s.now }
 {

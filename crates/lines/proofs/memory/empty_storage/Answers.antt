@@ -1,0 +1,7 @@
+-- The array's length by a law: found by search it would be counted out, which takes gigabytes.
+use Rattle.std.proofs.Common.{ℕ, sym}
+use lib.ListN.{length-replicate}
+use Rattle.lines.proofs.memory.empty_storage.Goals as goal
+
+pub returns-clause-value_2 : goal.returns-clause-value_2
+returns-clause-value_2 c = sym (length-replicate {A = ℕ} 524288 0)
