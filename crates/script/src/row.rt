@@ -32,6 +32,7 @@ pub(crate) fn filled(row: u64, line: u64) -> u64
 }
 
 // Plays a row: whether it agrees.
+#[tactic(auto, unfolding(crate::specs::Operations::operate))]
 pub(crate) fn agrees(row: u64, image: &mut [u8], bus: &mut [u8], storage: &mut [u8]) -> bool
     ensures { (result, image.new, bus.new, storage.new) ≡ row_of row image.old bus.old storage.old }
 {
