@@ -30,12 +30,12 @@ module _ (C E : ℕ → ℕ) where
     pub to_storage : (i : ℕ) → i < n → get_or s (E i) 0 ≡ get_or m₀ (C i) 0
     pub other_bus : (x : ℕ) → ((i : ℕ) → i < n → x ≢ C i) → get_or m x 0 ≡ get_or m₀ x 0
     pub other_storage : (x : ℕ) → ((i : ℕ) → i < n → x ≢ E i) → get_or s x 0 ≡ get_or s₀ x 0
-    pub bus_size_lem : length m ≡ length m₀
+    pub bus_length : length m ≡ length m₀
     pub storage_size : length s ≡ length s₀
 
   pub exch_zero : (m s : List ℕ) → Exch 0 m s m s
   exch_zero m s =
-      record { to_bus = λ i h. absurd (omega arith); to_storage = λ i h. absurd (omega arith); other_bus = λ x h. refl; other_storage = λ x h. refl; bus_size_lem = refl; storage_size = refl }
+      record { to_bus = λ i h. absurd (omega arith); to_storage = λ i h. absurd (omega arith); other_bus = λ x h. refl; other_storage = λ x h. refl; bus_length = refl; storage_size = refl }
 
   -- one place list: the value at place n put in
   put_new : (f : ℕ → ℕ) (l : List ℕ) (n v i : ℕ) (w : ℕ → ℕ) → f n < length l → ((k : ℕ) → k < n → f k ≢ f n)
@@ -53,18 +53,18 @@ module _ (C E : ℕ → ℕ) where
       → Exch (suc n) m₀ s₀ (set m (C n) (get_or s₀ (E n) 0)) (set s (E n) (get_or m₀ (C n) 0))
   exch_next n m₀ s₀ m s x fm fs apm aps =
       record {
-        to_bus = λ i h. put_new C m n (get_or s₀ (E n) 0) i (λ k. get_or s₀ (E k) 0) (omega (arith, x.bus_size_lem)) apm x.to_bus refl h;
+        to_bus = λ i h. put_new C m n (get_or s₀ (E n) 0) i (λ k. get_or s₀ (E k) 0) (omega (arith, x.bus_length)) apm x.to_bus refl h;
         to_storage = λ i h. put_new E s n (get_or m₀ (C n) 0) i (λ k. get_or m₀ (C k) 0) (omega (arith, x.storage_size)) aps x.to_storage refl h;
         other_bus = λ j nw. get_or-set_other m (C n) j (get_or s₀ (E n) 0) 0 (nw n (omega arith)) ∙ x.other_bus j (λ i h. nw i (omega arith));
         other_storage = λ j nw. get_or-set_other s (E n) j (get_or m₀ (C n) 0) 0 (nw n (omega arith)) ∙ x.other_storage j (λ i h. nw i (omega arith));
-        bus_size_lem = length-set m (C n) (get_or s₀ (E n) 0) ∙ x.bus_size_lem;
+        bus_length = length-set m (C n) (get_or s₀ (E n) 0) ∙ x.bus_length;
         storage_size = length-set s (E n) (get_or m₀ (C n) 0) ∙ x.storage_size;
       }
 
   -- twice is back
   pub exch_twice : (n : ℕ) (m₀ s₀ m s m₂ s₂ : List ℕ) → Exch n m₀ s₀ m s → Exch n m s m₂ s₂ → (m₂ ≡ m₀) × (s₂ ≡ s₀)
   exch_twice n m₀ s₀ m s m₂ s₂ x y = (
-    ext_get_or 0 m₂ m₀ (y.bus_size_lem ∙ x.bus_size_lem) (λ j h. bus j (place C n j)),
+    ext_get_or 0 m₂ m₀ (y.bus_length ∙ x.bus_length) (λ j h. bus j (place C n j)),
     ext_get_or 0 s₂ s₀ (y.storage_size ∙ x.storage_size) (λ j h. sto j (place E n j)),
   )
     where

@@ -160,7 +160,7 @@ module _ (k : Held) (st : Start k) where
   opened_ready =
       let mem = st.memories in
       ready_of (opened k) (record { sound = open_sound k.image st.image_bytes st.accepted; bus = mem.bus_bytes; storage = mem.storage_bytes })
-      mem.bus_size_lem (mem.storage_size ∙ size_is)
+      mem.bus_length (mem.storage_size ∙ size_is)
 
   pub opened_is : held (opened k) ≡ k
   opened_is = λ i. record { image = pack_back k.image st.image_bytes st.accepted i; bus = k.bus; storage = k.storage }

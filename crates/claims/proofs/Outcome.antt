@@ -177,7 +177,7 @@ module _ (k : Held) (x : St) (e : k ≡ held x) (sound : Sound x.u) (w : ℕ →
   shown_block a b same ex =
       let f : Exch (bus_place w) (storage_place (size_set a) w) (block_length w) a.bus a.storage b.bus b.storage
       = subst₃ (λ (C E : ℕ → ℕ) (n : ℕ). Exch C E n a.bus a.storage b.bus b.storage) (fun_ext bus_place_lem) (fun_ext (λ i. storage_place_lem i ∙ ap (λ (n : ℕ). storage_place n w i) (sym same))) block_length_lem ex in
-      record { to_bus = f.to_bus; to_storage = f.to_storage; other_bus = f.other_bus; other_storage = f.other_storage; bus_size_lem = f.bus_size_lem; storage_size = f.storage_size }
+      record { to_bus = f.to_bus; to_storage = f.to_storage; other_bus = f.other_bus; other_storage = f.other_storage; bus_length = f.bus_length; storage_size = f.storage_size }
 
 -- ---- run A
 
@@ -227,7 +227,7 @@ module _ (a : Held) (p : Parts) (sa : Start a) (ra : RunA a p) where
   good₁ = first_part.good
 
   ready₁ : Ready x₁
-  ready₁ = ready_of x₁ good₁ (ap length bus₁ ∙ sa.memories.bus_size_lem) (ap length storage₁ ∙ sa.memories.storage_size ∙ sym size₁)
+  ready₁ = ready_of x₁ good₁ (ap length bus₁ ∙ sa.memories.bus_length) (ap length storage₁ ∙ sa.memories.storage_size ∙ sym size₁)
 
   idling₁ : Idling x₁
   unfolding x₁
@@ -277,7 +277,7 @@ module _ (a : Held) (p : Parts) (sa : Start a) (ra : RunA a p) where
   ready₃ : Ready x₃
   unfolding x₃
   ready₃ =
-      ready_of x₃ middle_part.good (middle_over.exch.bus_size_lem ∙ ready₁.bus.size) (middle_over.exch.storage_size ∙ ready₁.storage.size ∙ sym size₃)
+      ready_of x₃ middle_part.good (middle_over.exch.bus_length ∙ ready₁.bus.size) (middle_over.exch.storage_size ∙ ready₁.storage.size ∙ sym size₃)
 
   -- the second swap
   second_swap : FromStart (at_restart a p) x₃ p.restart p.last

@@ -143,7 +143,7 @@ start m s = record { u = connected new_reu; m = m; s = s }
 module _ (m s : List ℕ) (mem : Memories new_size m s) where
   ready_with : (u : Reu) → Sound u → u.size ≡ new_size → Ready (record { u = u; m = m; s = s })
   ready_with u h z =
-      ready_of (record { u = u; m = m; s = s }) (record { sound = h; bus = mem.bus_bytes; storage = mem.storage_bytes }) mem.bus_size_lem (mem.storage_size ∙ sym z)
+      ready_of (record { u = u; m = m; s = s }) (record { sound = h; bus = mem.bus_bytes; storage = mem.storage_bytes }) mem.bus_length (mem.storage_size ∙ sym z)
 
   ready_fresh : Ready (fresh m s)
   ready_fresh = ready_with new_reu sound_new refl
@@ -290,7 +290,7 @@ table m s mem =
       );
       R16 = grants_of m s mem (begin 0 0 1 0x92) (omega arith) r16 (omega arith);
       R16-bytes =
-          let e = late_fall m s mem.bus_size_lem mem.storage_size in
+          let e = late_fall m s mem.bus_length mem.storage_size in
           (bus_of m s mem (begin 0 0 1 0x92 ++ r16) (omega arith) ∙ e.0, storage_of m s mem (begin 0 0 1 0x92 ++ r16) (omega arith) ∙ e.1);
     }
 

@@ -118,7 +118,7 @@ Allowed W a v = OfBlock (register a) × Value W (register a) v
 
 -- L is the number of address lines, from 16 on: one argument for every size
 module _ (W : ℕ → ℕ) (L : ℕ) (wide : 16 ≤ L) (within : L ≤ 24) (c e n : ℕ) (few : n ≤ 65536) (m₀ s₀ : List ℕ)
-    (bus_size_lem : length m₀ ≡ 65536) (storage_size : length s₀ ≡ 2 ^ L) where
+    (bus_length : length m₀ ≡ 65536) (storage_size : length s₀ ≡ 2 ^ L) where
   pub data Progress (k : ℕ) (g : ℕ → ℕ) (x : St) : Type 0 where
     reading :
         (j : ℕ) → j < n → k ≡ 2 * j → ((r : ℕ) → g r ≡ 0) → Reading x.u (on_bus c j) ((e + j) % 16777216) (n - j)

@@ -19,7 +19,7 @@ pub record Held : Type 0 where
 pub record Memories (size : ℕ) (bus storage : List ℕ) : Type 0 where
   pub bus_bytes : Bytes bus
   pub storage_bytes : Bytes storage
-  pub bus_size_lem : length bus ≡ bus_size
+  pub bus_length : length bus ≡ bus_size
   pub storage_size : length storage ≡ size
 
 -- which call, with its numbers: the three that demand 3 speaks of, and the other thirteen

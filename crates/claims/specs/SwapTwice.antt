@@ -117,7 +117,7 @@ pub record Exchanged (w : ℕ → ℕ) (a b : Held) : Type 0 where
   pub other_bus : (j : ℕ) → ((i : ℕ) → i < block_length w → j ≢ bus_place w i) → get_or b.bus j 0 ≡ get_or a.bus j 0
   pub other_storage :
       (j : ℕ) → ((i : ℕ) → i < block_length w → j ≢ storage_place (size_set a) w i) → get_or b.storage j 0 ≡ get_or a.storage j 0
-  pub bus_size_lem : length b.bus ≡ length a.bus
+  pub bus_length : length b.bus ≡ length a.bus
   pub storage_size : length b.storage ≡ length a.storage
 
 -- ---- run A
