@@ -1,12 +1,12 @@
 -- Worked examples of the definitions, with what was expected written by hand: no command, what is said of a refused image and of a size, and the marks.
-use Rattle.std.proofs.Common.{◌≡◌, ℕ, true, false, List, [], ◌∷◌, ◌++◌, replicate, refl}
+use Rattle.std.proofs.Common.{◌≡◌, ℕ, true, false, List, [], ◌∷◌, replicate, refl}
 use Rattle.image.specs.Layout.{image_size}
 use Rattle.controller.specs.Refusals.{checked}
 use Rattle.transfer.specs.Dma.{neither}
 use Rattle.image.specs.Open.{bytes_ok, image_ok, open_image}
 use Rattle.reu.specs.Exports.{change, look}
 use Rattle.text.specs.Shown.{◌⊕◌, ascii, decimal_up_to, fill_from, hex_of}
-use Rattle.text.specs.Typed.{digits_from, number_of, same, word_from, words_from}
+use Rattle.text.specs.Typed.{digits_from, number_of, same, word_from}
 use Rattle.lines.specs.declared.clock.Clock.{Clock}
 use Rattle.console.specs.declared.step.Cycle.{Cycle}
 use Rattle.console.specs.Apply.{apply_of, control_of, size_text, sized}

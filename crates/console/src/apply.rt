@@ -139,6 +139,7 @@ fn reset(clock: Clock, image: &mut [u8]) -> Applied
 }
 
 // What to say of a size, by what the call answered. Authors may not expect that a new machine is needed.
+#[tactic(auto, unfolding(crate::specs::Apply::size_text))]
 fn size_text(answer: u32) -> Line
     ensures { text_of result ≡ size_text answer }
 {
@@ -218,6 +219,7 @@ fn set_cycle(line: Line, clock: Clock) -> Applied
 }
 
 // One bus cycle: what it was granted, and the bytes after it.
+#[tactic(auto, unfolding(crate::specs::Apply::step_outcome))]
 pub fn step(clock: Clock, image: &mut [u8], bus: &mut [u8], storage: &mut [u8]) -> Applied
     ensures { (time_of result.clock, text_of result.said, image.new, bus.new, storage.new) ≡ step_outcome clock image.old bus.old storage.old }
 {
@@ -229,6 +231,7 @@ pub fn step(clock: Clock, image: &mut [u8], bus: &mut [u8], storage: &mut [u8]) 
     }
 }
 
+#[tactic(auto, unfolding(crate::specs::Apply::go_outcome))]
 fn run_command(
     line: Line,
     clock: Clock,

@@ -22,6 +22,7 @@ pub fn write(line: Line, image: &mut [u8])
 }
 
 // What a read gives, as a line, or that it was refused.
+#[tactic(auto, unfolding(crate::specs::Registers::read_text))]
 pub fn read(line: Line, image: &mut [u8]) -> Line
     ensures result_value { text_of result ≡ read_text (text_of line) image.old }
     ensures image_after { image.new ≡ after_read (text_of line) image.old }
@@ -34,6 +35,7 @@ pub fn read(line: Line, image: &mut [u8]) -> Line
 }
 
 // Without storage no command can run, which a newcomer may not expect; and a refused image takes no write.
+#[tactic(auto, unfolding(crate::specs::Registers::warning_of))]
 pub fn warning(image: &[u8]) -> Line
     ensures { text_of result ≡ warning_of image.now }
 {

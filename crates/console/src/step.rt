@@ -1,8 +1,9 @@
 // Bus cycles: one by one, or until the command ends.
-ghost use Rattle.std.specs.Prelude.{◌≡◌, if◌then◌else◌, nat_eq};
+ghost use Rattle.std.specs.Prelude.{◌≡◌, ℕ, if◌then◌else◌, List, nat_eq};
 ghost use Rattle.transfer.specs.Constants.{bus_size};
 ghost use Rattle.text.specs.Shown.{◌⊕◌, text_of};
 ghost use Rattle.lines.specs.Clock.{time_of};
+ghost use Rattle.console.specs.declared.step.Cycle.{Cycle};
 ghost use Rattle.console.specs.Step.{access_text, advanced, asked_of, ba_text, bytes_there, counted, cycle_line, cycle_of, either_of, go_of, grant_text, mark_if, marks_of, passed_text, refused_cycle, run_line, run_text, started, time_after};
 
 use lines::clock::Clock;
@@ -45,7 +46,7 @@ fn marks(answer: u32) -> Passed
 // asking may write, the byte of a swap that is given up, the cycle writes again itself; a cycle that is `lent` a bus of another
 // length is refused and writes nothing, so nothing is asked.
 fn ask(inputs: u8, number: u64, image: &[u8], lent: usize, storage: &mut [u8]) -> Cycle
-    ensures { (result, storage.new) ≡ (if nat_eq lent bus_size then asked_of inputs number image.now storage.old else refused_cycle 0, storage.old) }
+    ensures { ◌≡◌ {A = Cycle × List ℕ} (result, storage.new) (if nat_eq lent bus_size then asked_of inputs number image.now storage.old else (refused_cycle 0, storage.old)) }
 {
     if lent != BUS_SIZE {
         return refused(0);
@@ -104,6 +105,7 @@ pub fn run_cycle(
 
 // ---- one cycle, shown
 
+#[tactic(auto, unfolding(crate::specs::Step::ba_text))]
 fn ba_text(line: Line, letter: u8) -> Line
     ensures { text_of result ≡ ba_text (text_of line) letter }
 {
@@ -127,6 +129,7 @@ fn grant_text(line: Line, grant: u32) -> Line
     }
 }
 
+#[tactic(auto, unfolding(crate::specs::Step::access_text))]
 fn access_text(line: Line, access: u32) -> Line
     ensures { text_of result ≡ access_text (text_of line) access }
 {
@@ -139,6 +142,7 @@ fn access_text(line: Line, access: u32) -> Line
 }
 
 // The two bytes at the transfer's place, as they are after the cycle.
+#[tactic(auto, unfolding(crate::specs::Step::bytes_there))]
 fn bytes_there(line: Line, done: Cycle, bus: &[u8], storage: &[u8]) -> Line
     ensures { text_of result ≡ bytes_there (text_of line) done bus.now storage.now }
 {
@@ -173,6 +177,7 @@ fn passed_text(line: Line, passed: Passed) -> Line
 }
 
 // A cycle by its number, BA, the grant, the access, the bytes and the marks; a refused one made no access.
+#[tactic(auto, unfolding(crate::specs::Step::cycle_line))]
 pub fn cycle_line(clock: Clock, done: Cycle, bus: &[u8], storage: &[u8]) -> Line
     ensures { text_of result ≡ cycle_line clock done bus.now storage.now }
 {
@@ -186,6 +191,7 @@ pub fn cycle_line(clock: Clock, done: Cycle, bus: &[u8], storage: &[u8]) -> Line
 }
 
 // The time after a cycle: one that was refused takes none.
+#[tactic(auto, unfolding(crate::specs::Step::time_after))]
 pub fn after(clock: Clock, grant: u32) -> Clock
     ensures { time_of result ≡ time_after (time_of clock) grant }
 {
@@ -216,6 +222,7 @@ fn either(one: Passed, other: Passed) -> Passed
 }
 
 // A cycle more, unless it was refused.
+#[tactic(auto, unfolding(crate::specs::Step::counted))]
 fn count(run: Run, done: Cycle) -> Run
     ensures { result ≡ counted run done }
 {
@@ -243,6 +250,7 @@ fn count(run: Run, done: Cycle) -> Run
 }
 
 // A cycle, while a command runs.
+#[tactic(auto, unfolding(crate::specs::Step::advanced))]
 fn advance(run: Run, image: &mut [u8], bus: &mut [u8], storage: &mut [u8]) -> Run
     ensures { (result, image.new, bus.new, storage.new) ≡ advanced (run, image.old, bus.old, storage.old) }
 {
@@ -273,6 +281,7 @@ pub fn go(clock: Clock, limit: u32, image: &mut [u8], bus: &mut [u8], storage: &
 }
 
 // How many cycles a run had, and how it ended.
+#[tactic(auto, unfolding(crate::specs::Step::run_text))]
 fn run_text(run: Run, image: &[u8]) -> Line
     ensures { text_of result ≡ run_text run image.now }
 {
@@ -291,6 +300,7 @@ fn run_text(run: Run, image: &[u8]) -> Line
 }
 
 // What to say of a run.
+#[tactic(auto, unfolding(crate::specs::Step::run_line))]
 pub fn run_line(run: Run, image: &[u8]) -> Line
     ensures { text_of result ≡ run_line run image.now }
 {
