@@ -4,87 +4,133 @@ use image::layout::IMAGE_BYTES;
 use lines::files::{copy, length_fault, part_name};
 use lines::memory::{empty_bus, empty_storage};
 use pane::rows::lent;
+use std::fs::OpenFile;
+use std::io::{ErrorKind, Read, Write};
+use std::rt::Files;
+use std::{fs, io, str};
 use text::line::{Line, fill, first};
+
+// ---- a file by its name: no name is opened whose bytes are not UTF-8
+
+pub(crate) fn open_read<R: Files>(rt: &R, name: Line) -> Option<R::File> {
+    let bytes = name.all();
+    let path = str::from_utf8(first(&bytes, name.used)).ok()?;
+    fs::open(rt, path).ok()
+}
+
+// The file is made, or emptied if it is there.
+fn open_overwrite<R: Files>(rt: &R, name: Line) -> Option<R::File> {
+    let bytes = name.all();
+    let path = str::from_utf8(first(&bytes, name.used)).ok()?;
+    fs::create(rt, path).ok()
+}
 
 // ---- saving
 
-fn write_part(name: Line, bytes: &[u8]) -> bool {
-    let path = name.all();
-    let fd = os::open_overwrite(first(&path, name.used));
-    if fd < 0 {
-        return false;
+// Whether what was written has reached the file: that a disk on another machine is full may be said no earlier than here, and std says
+// nothing of it when the file is closed. A pipe or a terminal cannot be asked, and has what was written.
+fn is_kept(file: &impl OpenFile) -> bool {
+    match file.sync_all() {
+        Ok(()) => true,
+        Err(error) => error.kind() == ErrorKind::InvalidInput,
     }
-    let written = io::write_all(fd, bytes);
-    written & (libc::close(fd) == 0)
+}
+
+fn write_part(rt: &impl Files, name: Line, bytes: &[u8]) -> bool {
+    let Some(mut file) = open_overwrite(rt, name) else {
+        return false;
+    };
+    let written = file.write_all(bytes).is_ok();
+    written & is_kept(&file)
 }
 
 // Writes a part unless an earlier one failed.
-fn save_part(so_far: bool, name: Line, part: u8, bytes: &[u8]) -> bool {
+fn save_part(
+    rt: &(impl Files + Print),
+    so_far: bool,
+    name: Line,
+    part: u8,
+    bytes: &[u8],
+) -> io::Result<bool> {
     if !so_far {
-        return false;
+        return Ok(false);
     }
     let file = part_name(name, part);
-    let written = write_part(file, bytes);
+    let written = write_part(rt, file, bytes);
     if !written {
-        say(fill(b"cannot write %", file));
+        say(rt, fill(b"cannot write %", file))?;
     }
-    written
+    Ok(written)
 }
 
 // The storage is the first of the bytes, as many as the image sets.
-pub(crate) fn save(name: Line, image: &[u8], bus: &[u8], storage: &[u8]) {
+pub(crate) fn save(
+    rt: &(impl Files + Print),
+    name: Line,
+    image: &[u8],
+    bus: &[u8],
+    storage: &[u8],
+) -> io::Result<()> {
     let size = lent(image, storage);
-    let one = save_part(true, name, 0, image);
-    let two = save_part(one, name, 1, bus);
-    if save_part(two, name, 2, &storage[..size]) {
-        say(fill(b"saved %, %.bus and %.storage", name));
+    let one = save_part(rt, true, name, 0, image)?;
+    let two = save_part(rt, one, name, 1, bus)?;
+    if save_part(rt, two, name, 2, &storage[..size])? {
+        say(rt, fill(b"saved %, %.bus and %.storage", name))?;
     }
+    Ok(())
 }
 
 // ---- opening
 
-// How many bytes a file still has: none, one, or two if there are more; below 0 if reading it fails.
-fn bytes_behind(fd: i32) -> isize {
+// Reads until the bytes are full, the file ends or a read fails; how many it read.
+fn read_full(file: &mut impl Read, bytes: &mut [u8]) -> usize {
+    let mut done = 0;
+    for _ in 0..bytes.len() {
+        if done >= bytes.len() {
+            break;
+        }
+        match file.read(&mut bytes[done..]) {
+            Ok(0) => break,
+            Ok(n) => done += n,
+            Err(_) => break,
+        }
+    }
+    done
+}
+
+// How many bytes a file still has: none, one, or two if there are more; an error if reading it fails.
+fn bytes_behind(file: &mut impl Read) -> io::Result<usize> {
     let mut byte = [0u8; 1];
-    let one = libc::read(fd, &mut byte);
-    if one != 1 {
-        return one;
+    if file.read(&mut byte)? == 0 {
+        return Ok(0);
     }
-    let two = libc::read(fd, &mut byte);
-    if two == 1 {
-        return 2;
+    if file.read(&mut byte)? == 0 {
+        return Ok(1);
     }
-    if two == 0 { 1 } else { two }
+    Ok(2)
 }
 
 // Reads a part into bytes of its length; what is wrong with it, as a line. One byte too many is counted, so that of an
 // image that an earlier release saved the length is said; of more it is only said that the file goes on.
-fn read_part(name: Line, part: u8, bytes: &mut [u8]) -> Line {
+fn read_part(rt: &impl Files, name: Line, part: u8, bytes: &mut [u8]) -> Line {
     let file = part_name(name, part);
-    let path = file.all();
-    let fd = os::open_read(first(&path, file.used));
-    if fd < 0 {
+    let Some(mut opened) = open_read(rt, file) else {
         return fill(b"cannot read %: no such file, or it may not be read", file);
-    }
+    };
     let needed = bytes.len();
-    let got = io::read_full(fd, bytes);
-    let behind = bytes_behind(fd);
-    libc::close(fd);
-    if (got == needed) & (behind == 0) {
-        return Line::new();
+    let got = read_full(&mut opened, bytes);
+    let behind = bytes_behind(&mut opened);
+    match behind {
+        Ok(0) if got == needed => Line::new(),
+        Ok(0) => length_fault(name, part, got, false, needed),
+        Ok(more) if got == needed => length_fault(name, part, got + 1, more == 2, needed),
+        _ => fill(b"cannot read %: it is no file, or reading it failed", file),
     }
-    if behind == 0 {
-        return length_fault(name, part, got, false, needed);
-    }
-    if (got == needed) & (0 < behind) {
-        return length_fault(name, part, got + 1, behind == 2, needed);
-    }
-    fill(b"cannot read %: it is no file, or reading it failed", file)
 }
 
 // The image alone, tested as every call tests it.
-fn read_image(name: Line, image: &mut [u8]) -> Line {
-    let found = read_part(name, 0, image);
+fn read_image(rt: &impl Files, name: Line, image: &mut [u8]) -> Line {
+    let found = read_part(rt, name, 0, image);
     if !found.is_empty() {
         return found;
     }
@@ -98,21 +144,28 @@ fn read_image(name: Line, image: &mut [u8]) -> Line {
 }
 
 // All three parts, into bytes that are not the machine's. The image says how long the storage is; what lies behind it stays as it is.
-fn read_machine(name: Line, image: &mut [u8], bus: &mut [u8], storage: &mut [u8]) -> Line {
-    let found = read_image(name, image);
+fn read_machine(
+    rt: &impl Files,
+    name: Line,
+    image: &mut [u8],
+    bus: &mut [u8],
+    storage: &mut [u8],
+) -> Line {
+    let found = read_image(rt, name, image);
     if !found.is_empty() {
         return found;
     }
-    let also = read_part(name, 1, bus);
+    let also = read_part(rt, name, 1, bus);
     if !also.is_empty() {
         return also;
     }
     let size = lent(image, storage);
-    read_part(name, 2, &mut storage[..size])
+    read_part(rt, name, 2, &mut storage[..size])
 }
 
 // The machine is changed once all three parts are there: behind the storage that was read there are zeros. Answers what to say.
 pub(crate) fn open_machine(
+    rt: &impl Files,
     name: Line,
     image: &mut [u8],
     bus: &mut [u8],
@@ -121,7 +174,7 @@ pub(crate) fn open_machine(
     let mut saved = [0u8; IMAGE_BYTES];
     let mut saved_bus = empty_bus();
     let mut saved_storage = empty_storage();
-    let found = read_machine(name, &mut saved, &mut saved_bus, &mut saved_storage);
+    let found = read_machine(rt, name, &mut saved, &mut saved_bus, &mut saved_storage);
     if !found.is_empty() {
         return found;
     }
@@ -131,12 +184,16 @@ pub(crate) fn open_machine(
     fill(b"opened %, %.bus and %.storage", name)
 }
 
-pub(crate) fn compare(name: Line, image: &[u8], colour: bool) {
+pub(crate) fn compare(
+    rt: &(impl Files + Print),
+    name: Line,
+    image: &[u8],
+    colour: bool,
+) -> io::Result<()> {
     let mut saved = [0u8; IMAGE_BYTES];
-    let found = read_image(name, &mut saved);
+    let found = read_image(rt, name, &mut saved);
     if !found.is_empty() {
-        say(found);
-        return;
+        return say(rt, found);
     }
-    show_beside(image, &saved, colour);
+    show_beside(rt, image, &saved, colour)
 }

@@ -1,8 +1,10 @@
 // What the commands are.
 use crate::output::tell;
+use std::io;
 
-pub(crate) fn help() {
+pub(crate) fn help(rt: &impl Print) -> io::Result<()> {
     tell(
+        rt,
         b"r                the pane: registers, shadows, flags, size, granted cycles, the transfer
 m ADDR [END]     bytes of the bus; ms ADDR [END] of the storage
 > ADDR BYTE..    put bytes on the bus; >s ADDR BYTE.. in the storage
@@ -10,8 +12,9 @@ w ADDR BYTE..    write registers, one after another: w DF02 00 10; rd ADDR reads
 ff00             the processor writes to FF00: an armed command starts
 z [N]            N cycles (1): each one's BA, grant, access, tops passed and changes
 g [LIMIT]        cycles until the command ends, at most LIMIT (40000), and tops passed",
-    );
+    )?;
     tell(
+        rt,
         b"ba PATTERN       BA of the next cycles, a letter each: h high, l low,
                  f falls (low, but high at phi1), r rises (high, but low at phi1),
                  0 to 7 the inputs: 4 ba_high, 2 ba_high_phi1, 1 ba_low
@@ -23,5 +26,5 @@ save FILE        the image to FILE, the bus to FILE.bus, the storage to FILE.sto
 open FILE        the same three back; beside FILE: the saved pane beside the live one
 help, q          this; the end
 Numbers are hexadecimal, $ optional; decimal with a leading +. # starts a comment.",
-    );
+    )
 }

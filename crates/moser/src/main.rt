@@ -4,6 +4,7 @@
 
 use image::layout::IMAGE_BYTES;
 use script::*;
+use std::io;
 
 // A line's last two digits are the number of its table; what the columns before them mean stands above each table.
 const TABLES: [u64; 145] = [
@@ -417,11 +418,10 @@ const SCRIPTS: [u64; 212] = [
     STATUS_IS + BYTE + 2 * COLUMN,
 ];
 
-fn main() {
+fn main(rt: HostRuntime) -> io::Result<()> {
     let mut image = [0u8; IMAGE_BYTES];
     let mut bus = empty_bus();
     let mut storage = empty_storage();
     let n = script::play_table(&SCRIPTS, &TABLES, &mut image, &mut bus, &mut storage);
-    io::print_decimal(1, n as u64);
-    io::write_all(1, b" of 145\n");
+    println!(rt; "{n} of 145")
 }

@@ -3,6 +3,7 @@
 
 use image::layout::IMAGE_BYTES;
 use script::*;
+use std::io;
 
 // A row is an operation plus a place times `AT` plus a value; crate script says what each operation does.
 // Unless said: new, enabled, BA high, registers written, then cycle calls, here named ticks.
@@ -258,11 +259,10 @@ const SESSIONS: [u64; 220] = [
 // The table whose lines are the numbers of the sessions.
 const NUMBERS: [u64; 16] = [1, 2, 3, 4, 5, 6, 7, 8, 9, 10, 11, 12, 13, 14, 15, 16];
 
-fn main() {
+fn main(rt: HostRuntime) -> io::Result<()> {
     let mut image = [0u8; IMAGE_BYTES];
     let mut bus = empty_bus();
     let mut storage = empty_storage();
     let n = script::play_table(&SESSIONS, &NUMBERS, &mut image, &mut bus, &mut storage);
-    io::print_decimal(1, n as u64);
-    io::write_all(1, b" of 16\n");
+    println!(rt; "{n} of 16")
 }
