@@ -3,7 +3,7 @@ ghost use Rattle.std.specs.Prelude.{◌≡◌, [], if◌then◌else◌, nat_eq};
 ghost use Rattle.text.specs.Shown.{◌⊕◌, fill_from, text_of};
 ghost use Rattle.text.specs.Typed.{same, word_of, words_of};
 ghost use Rattle.lines.specs.Commands.{ba_fault, command_fault, count_fault, file_fault, is_change, is_comment, is_switch, line_fault, name_at, other_fault, place_of, size_fault, size_typed};
-ghost use Rattle.lines.specs.Commands.{exactly as exactlyOf};
+ghost use Rattle.lines.specs.Commands.{exactly as exactly_of};
 
 use crate::clock::is_pattern;
 use crate::keys;
@@ -170,7 +170,7 @@ fn size_fault(line: Line) -> Line
 
 // Of commands that are a word alone.
 fn alone_fault(line: Line) -> Line
-    ensures { text_of result ≡ exactlyOf 1 "usage: %, with nothing after it" (text_of line) }
+    ensures { text_of result ≡ exactly_of 1 "usage: %, with nothing after it" (text_of line) }
 {
     exactly(line, 1, b"usage: %, with nothing after it")
 }
