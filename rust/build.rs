@@ -1,4 +1,4 @@
-//! Finds libreu.a: in the folder that REU_LIB_DIR names, else where `rt staticlib reu` writes it.
+//! Finds libreu.a: in the folder that REU_LIB_DIR names, else where tools/archive writes it.
 
 use std::{env, path::PathBuf};
 
@@ -12,7 +12,7 @@ fn main() {
     println!("cargo::rerun-if-env-changed=REU_LIB_DIR");
     println!("cargo::rerun-if-changed={}", archive.display());
     if !archive.is_file() {
-        let message = "is not there: run `rt staticlib reu`, or name the folder of libreu.a in REU_LIB_DIR";
+        let message = "is not there: run tools/archive, or name the folder of libreu.a in REU_LIB_DIR";
         println!("cargo::error={} {message}", archive.display());
         return;
     }

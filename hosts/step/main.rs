@@ -63,8 +63,8 @@ fn run(place: &Place, count: u16, command: u8, inputs: &[Ba], expected: u32) -> 
     let registers = [c64_low, c64_high, low, high, bank, length_low, length_high];
     // More than any of the transfers needs.
     let limit = if expected == CPU { 1 } else { 3 } * u64::from(count);
-    // SAFETY: each pointer is valid for the length beside it, and no two buffers overlap. The Rattle side indexes the
-    // inputs from 0, and there is at least one.
+    // SAFETY: each pointer is valid for the length beside it, and no two buffers overlap. What the Rattle side requires
+    // holds: there are seven registers and at least one input.
     let ran = unsafe {
         let (bus, storage) = ((bus.as_mut_ptr(), bus.len()), (storage.as_mut_ptr(), storage.len()));
         let (lent, inputs) = ((registers.as_ptr(), registers.len()), (inputs.as_ptr(), inputs.len()));
