@@ -25,7 +25,7 @@ use Rattle.reu.specs.Exports.{flag, refusal_unit, refusal, code, image_after, lo
 use Rattle.claims.specs.Calls.{Other, new, reset, set_size, set_enabled, storage_present, capacity_bytes, trigger_ff00, dma_active, bus_action, cpu_ready, debug_register, c64_access, tick_dma, Kind, read, write, cycle, other, Done, looked, on_image, on_storage, on_both, does_other, does, accepts, NumbersFit}
 use Rattle.image.proofs.Sound.{Sound}
 use Rattle.image.proofs.Valid.{sound_well, sound_typed}
-use Rattle.claims.proofs.States.{St, held, on, Act, looks, sizes, changes, stores, moves, ticks, other_act, act, value_by, left_by, number_by, value_of, step_of, number_of, Steady, Ready, ready_left}
+use Rattle.claims.proofs.States.{St, held, on, Act, looks, sizes, changes, stores, ticks, other_act, act, value_by, left_by, number_by, value_of, step_of, number_of, Steady, Ready, ready_left}
 
 -- ---- the number by the lengths
 

@@ -1,5 +1,5 @@
 -- The size and its mark hold over lists of calls, and setting a size touches two places of an image.
-use Prim.Native.Nat.{ℕ, ◌+◌, ◌*◌, ◌/◌, ◌%◌, ◌<◌}
+use Prim.Native.Nat.{ℕ, ◌+◌, ◌*◌, ◌%◌, ◌<◌}
 use native.Mathlib.Omega.{arith}
 use native.Mathlib.Nat.{add-zero}
 use mathlib.Core.Bool.{Bool, true, false, not, cond}
@@ -8,7 +8,6 @@ use mathlib.Core.Path.{◌≡◌, refl, sym, ap, ◌∙◌, subst}
 use mathlib.Core.List.{List, [], ◌∷◌, ◌++◌}
 use lib.Dec.{eqb}
 use lib.ListN.{length, get_or, set}
-use borrow.Author.Tests.{eq-eqb}
 use Rattle.transfer.specs.Bytes.{bit}
 use Rattle.transfer.specs.Constants.{new_size}
 use Rattle.transfer.specs.Memory.{is_size, chip_mark}
@@ -18,28 +17,26 @@ use Rattle.transfer.proofs.Sizes.{size_lines, three_sizes, size-128, size-256, s
 use Rattle.controller.specs.declared.reu.Reu.{Reu}
 use Rattle.controller.specs.Enable.{new_reu, with_mark, set_size as core_set_size}
 use Rattle.controller.specs.Reu.{with_regs}
-use Rattle.controller.specs.Refusals.{well_formed, first_refusal, size_refusal, checked}
+use Rattle.controller.specs.Refusals.{first_refusal, size_refusal, checked}
 use Rattle.controller.specs.Calls.{answered, refused, set_size_call}
 use Rattle.image.specs.declared.Opened.{Opened}
 use Rattle.image.specs.Fields.{laid}
 use Rattle.image.specs.Inner.{gets}
-use Rattle.image.specs.Layout.{fields, at, image_size, flags_of, flag_bits, more_bits, more_number, size_code, present, transfer_numbers, pack_image, reu_at}
+use Rattle.image.specs.Layout.{fields, at, image_size, flags_of, flag_bits, more_bits, more_number, size_code, present, transfer_numbers, pack_image}
 use Rattle.image.specs.Open.{image_ok, open_image}
-use Rattle.image.specs.Valid.{Bytes}
 use Rattle.image.proofs.Flags.{flags_below}
 use Rattle.image.proofs.Size.{code_most}
 use Rattle.image.proofs.Opening.{open_good, open_bad}
 use Rattle.image.proofs.Packed.{open_pack, listed_is}
 use Rattle.image.proofs.Sound.{Sound}
-use Rattle.image.proofs.Valid.{open_sound, sound_well, sound_typed}
+use Rattle.image.proofs.Valid.{sound_well, sound_typed}
 use Rattle.reu.specs.Exports.{refusal, code, image_after, changed, change, reu_capacity_bytes, reu_set_size}
 use Rattle.claims.specs.Constants.{more_flags_byte}
 use Rattle.claims.specs.Calls.{Held, Other, new, reset, set_size, set_enabled, storage_present, capacity_bytes, trigger_ff00, dma_active, bus_action, cpu_ready, debug_register, c64_access, tick_dma, Kind, read, write, cycle, other, Call, Fits, leaves, accepts, next, after, Each, All}
-use Rattle.claims.specs.SavedMachine.{OnOneImage}
 use Rattle.claims.specs.SwapTwice.{byte, size_set}
 use Rattle.claims.specs.GrantedCycles.{has_storage}
 use Rattle.claims.specs.ChipSize.{mark_in, refused_by, with_size, size_by_other, size_by, size_after, ChipSize}
-use Rattle.claims.proofs.States.{St, Good, held, step_of, number_of, keeps_size, good_step}
+use Rattle.claims.proofs.States.{St, Good, held, step_of, keeps_size, good_step}
 use Rattle.claims.proofs.Accepted.{alone, answer_is}
 use Rattle.claims.proofs.Walk.{number_at, left_is}
 use Rattle.claims.proofs.Look.{reg_byte, attached_bit, size_byte}

@@ -1,6 +1,5 @@
 -- The state behind the buffers, a controller with its bus and storage; what an accepted call does to it, and that it stays sound.
 use Prim.Native.Nat.{ℕ}
-use mathlib.Core.Bool.{false}
 use mathlib.Core.Path.{◌≡◌, refl, sym, ap, ◌∙◌, subst}
 use mathlib.Core.List.{List}
 use lib.ListN.{length, length-set, length-replicate}

@@ -1,11 +1,11 @@
 -- L4: the size that is set, and the chip-size mark in STATUS. Quotations are L4's words.
-use Rattle.std.specs.Prelude.{ℕ, ◌+◌, ◌*◌, ◌/◌, ◌%◌, ◌^◌, ◌<◌, Bool, true, not, cond, ◌≢◌, ◌⊎◌, ◌↔◌, ◌≡◌, List, [], ◌∷◌, map, eqb, length, set}
+use Rattle.std.specs.Prelude.{ℕ, ◌+◌, ◌*◌, ◌%◌, ◌^◌, ◌<◌, Bool, true, not, cond, ◌≢◌, ◌⊎◌, ◌↔◌, ◌≡◌, List, [], ◌∷◌, map, eqb, length, set}
 use Rattle.transfer.specs.Bytes.{bit}
 use Rattle.transfer.specs.Constants.{new_size, status, version}
 use Rattle.transfer.specs.Memory.{lines, is_size, chip_mark}
 use Rattle.controller.specs.Enable.{new_reu, with_mark}
 use Rattle.controller.specs.Refusals.{first_refusal}
-use Rattle.image.specs.Layout.{at, image_size, pack_image, size_code, size_of}
+use Rattle.image.specs.Layout.{at, image_size, pack_image, size_code}
 use Rattle.image.specs.Open.{open_image}
 use Rattle.image.specs.Valid.{Bytes}
 use Rattle.reu.specs.Exports.{refusal, reu_capacity_bytes, reu_set_size}

@@ -1,5 +1,5 @@
--- The controller record's fields, and a controller with some of them replaced. There is no record update, so a maker has a
--- place for each field, and each replacement names the others.
+-- The controller record's fields, and a controller with some of them replaced: a maker has a place for each field, and each
+-- replacement names the others.
 use Rattle.regs.specs.Registers.{held}
 use Rattle.controller.specs.Prelude.{ℕ, Bool, false, List, set, Dma, Reu}
 

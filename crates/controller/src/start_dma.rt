@@ -43,7 +43,7 @@ impl Reu {
         }
     }
 
-    // The controller with another command state: a field that is an enum is not stored to, so the struct is written anew.
+    // The controller with another command state.
     pub(crate) fn with_dma(self, dma: Dma) -> Reu
         ensures { result ≡ with_dma self dma }
     {

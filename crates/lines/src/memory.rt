@@ -19,14 +19,14 @@ const SHOWN: u32 = 63;
 
 pub fn empty_bus() -> [u8; 65536]
     ensures value { result ≡ replicate 65536 0 }
-    ensures value_2 { 65536 ≡ length result }
+    ensures long { 65536 ≡ length result }
 {
     [0; 65536]
 }
 
 pub fn empty_storage() -> [u8; 524288]
     ensures value { result ≡ replicate 524288 0 }
-    ensures value_2 { 524288 ≡ length result }
+    ensures long { 524288 ≡ length result }
 {
     [0; 524288]
 }

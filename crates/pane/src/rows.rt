@@ -211,7 +211,7 @@ pub fn size_in(image: &[u8]) -> u32
 pub fn lent(image: &[u8], bytes: &[u8]) -> usize
     ensures value { result ≡ min (size_in image.now) (length bytes.now) }
     ensures upper_bound { result ≤ length bytes.now }
-    ensures value_2 { result ≡ length (take result bytes.now) }
+    ensures taken { result ≡ length (take result bytes.now) }
 {
     let size = size_in(image) as usize;
     let most = bytes.len();

@@ -158,7 +158,7 @@ impl Line {
     // The whole array, of which `length` bytes count.
     pub fn all(self) -> [u8; 160]
         ensures value { result ≡ self.bytes }
-        ensures value_2 { 160 ≡ length result }
+        ensures long { 160 ≡ length result }
     {
         self.bytes
     }

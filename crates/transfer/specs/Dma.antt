@@ -5,7 +5,7 @@ use Rattle.transfer.specs.Constants.{expansion_limit, full_length}
 use Rattle.transfer.specs.Bytes.{bit, bit_of, keep_bits}
 use Rattle.transfer.specs.Memory.{next_c64, next_exp, seen_at}
 
--- ---- a transfer with some fields replaced. There is no record update, so a maker has a place for each field
+-- ---- a transfer with some fields replaced: a maker has a place for each field
 
 abbrev pub dma_of :
     TransferType → SwapPhase → C64Address → ExpansionAddress → ℕ → Bool → Bool → Bool → ℕ → Bool → Bool → Bool

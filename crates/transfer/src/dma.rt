@@ -209,7 +209,7 @@ impl DmaState {
         }
     }
 
-    // The transfer in another phase: a field that is an enum is not stored to, so the struct is written anew.
+    // The transfer in another phase.
     pub fn with_phase(self, swap_phase: SwapPhase) -> DmaState
         ensures { result ≡ with_phase self swap_phase }
     {

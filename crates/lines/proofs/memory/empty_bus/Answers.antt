@@ -3,5 +3,5 @@ use Rattle.std.proofs.Common.{ℕ, sym}
 use lib.ListN.{length-replicate}
 use Rattle.lines.proofs.memory.empty_bus.Goals as goal
 
-pub returns-clause-value_2 : goal.returns-clause-value_2
-returns-clause-value_2 c = sym (length-replicate {A = ℕ} 65536 0)
+pub returns-clause-long : goal.returns-clause-long
+returns-clause-long c = sym (length-replicate {A = ℕ} 65536 0)
