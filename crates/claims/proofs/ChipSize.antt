@@ -13,7 +13,7 @@ use Rattle.transfer.specs.Constants.{new_size}
 use Rattle.transfer.specs.Memory.{is_size, chip_mark}
 use Rattle.transfer.specs.declared.dma.Dma.{Dma}
 use Rattle.transfer.specs.declared.dma.Dma.TheVariants.{Idle, Running}
-use Rattle.transfer.proofs.Sizes.{size_lines, three_sizes, size-128, size-256, size-512, lines-17, lines-18, lines-19}
+use Rattle.transfer.proofs.Sizes.{size_lines, three_sizes, size_128, size_256, size_512, lines_17, lines_18, lines_19}
 use Rattle.controller.specs.declared.reu.Reu.{Reu}
 use Rattle.controller.specs.Enable.{new_reu, with_mark, set_size as core_set_size}
 use Rattle.controller.specs.Reu.{with_regs}
@@ -48,9 +48,9 @@ three : (n : ℕ) → (is_size n ≡ true → (n ≡ 131072) ⊎ (n ≡ 262144) 
 three n = (three_sizes n, back)
   where
     back : (n ≡ 131072) ⊎ (n ≡ 262144) ⊎ (n ≡ 524288) → is_size n ≡ true
-    back (inl e) = ap is_size e ∙ size-128
-    back (inr (inl e)) = ap is_size e ∙ size-256
-    back (inr (inr e)) = ap is_size e ∙ size-512
+    back (inl e) = ap is_size e ∙ size_128
+    back (inr (inl e)) = ap is_size e ∙ size_256
+    back (inr (inr e)) = ap is_size e ∙ size_512
 
 -- ---- the places that setting touches
 
@@ -222,7 +222,7 @@ pub chip_size : ChipSize
 chip_size =
     record {
       three = three;
-      connected = λ i. lines-17 i ∷ lines-18 i ∷ lines-19 i ∷ [];
+      connected = λ i. lines_17 i ∷ lines_18 i ∷ lines_19 i ∷ [];
       power = λ n e. (size_lines n e).power;
       sets = λ k size b z.
           let h = accepted_holds k.image b z in

@@ -9,7 +9,7 @@ use mathlib.Core.List.{List, [], ◌∷◌}
 use lib.Dec.{eqb, leb}
 use borrow.Author.Tests.{eq-eqb, ne_eqb, eqb-true, eqb-false, le-leb, leb-true, leb-false}
 use Rattle.transfer.specs.Bytes.{bit}
-use Rattle.transfer.proofs.Pick.{by-test}
+use Rattle.transfer.proofs.Pick.{by_test}
 use Rattle.controller.specs.Cycle.{most_granted, capped}
 use Rattle.claims.specs.Calls.{Held, Other, new, reset, set_size, set_enabled, storage_present, capacity_bytes, trigger_ff00, dma_active, bus_action, cpu_ready, debug_register, c64_access, tick_dma, Kind, read, write, cycle, other, grant_of, Call, Fits, leaves, accepts, next, after, Each, All, count}
 use Rattle.claims.specs.SwapTwice.{granted}
@@ -112,7 +112,7 @@ at_most : (n : ℕ) → n ≤ most_granted → capped n ≡ n
 at_most n h = ap (λ (b : Bool). cond b n most_granted) (le-leb n most_granted h)
 
 at_top : (n : ℕ) → most_granted ≤ n → capped n ≡ most_granted
-at_top n h = by-test (λ (m : ℕ). m ≡ most_granted) (leb n most_granted) n most_granted (λ e. omega (arith, leb-true n most_granted e)) (λ _. refl)
+at_top n h = by_test (λ (m : ℕ). m ≡ most_granted) (leb n most_granted) n most_granted (λ e. omega (arith, leb-true n most_granted e)) (λ _. refl)
 
 -- what is held at the top and counts on is held at the top
 capped_again : (n : ℕ) → capped (capped n + 1) ≡ capped (n + 1)

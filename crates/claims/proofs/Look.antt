@@ -43,20 +43,20 @@ upper_bits v h a b =
     two_bits q h a b = omega arith
 
 module _ (x : St) (sound : Sound x.u) where
-  regs-11 : length x.u.regs ≡ 11
-  regs-11 = sound.regs.len
+  regs_11 : length x.u.regs ≡ 11
+  regs_11 = sound.regs.len
 
   abbrev others : List ℕ
   others = laid (drop 11 fields) (other_numbers x.u)
 
   pub reg_byte : (i : ℕ) → i < 11 → byte (held x) i ≡ reg x.u i
   reg_byte i h =
-      ap (λ (l : List ℕ). get_or l i 0) (pack_is x.u regs-11) ∙ get_or-append x.u.regs others 0 i (omega (arith, regs-11))
+      ap (λ (l : List ℕ). get_or l i 0) (pack_is x.u regs_11) ∙ get_or-append x.u.regs others 0 i (omega (arith, regs_11))
 
   pub present_byte : byte (held x) transfer_byte ≡ present x.u.dma
   present_byte =
-      ap (λ (l : List ℕ). get_or l transfer_byte 0) (pack_is x.u regs-11)
-      ∙ ap (λ (i : ℕ). get_or (x.u.regs ++ others) i 0) (omega (arith, regs-11)) ∙ get_or-append-add x.u.regs others 10 0
+      ap (λ (l : List ℕ). get_or l transfer_byte 0) (pack_is x.u regs_11)
+      ∙ ap (λ (i : ℕ). get_or (x.u.regs ++ others) i 0) (omega (arith, regs_11)) ∙ get_or-append-add x.u.regs others 10 0
 
   -- what the image opens as
   reopened : reu_at (pack_image x.u) ≡ x.u

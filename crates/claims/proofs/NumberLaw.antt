@@ -26,7 +26,7 @@ use Rattle.regs.specs.Registers.{shown}
 use Rattle.transfer.specs.Timing.{action_number, reads, resumes, swap_reads, swap_writes, writes}
 use Rattle.transfer.specs.Dma.{is_first_byte, is_last_byte, moved}
 use Rattle.controller.specs.Timing.{c64_access}
-use Rattle.transfer.proofs.Pick.{by-test}
+use Rattle.transfer.proofs.Pick.{by_test}
 use Rattle.controller.specs.Reu.{reg, set_reg, with_armed, with_history, with_repeat}
 use Rattle.controller.specs.Registers.{read_register, write_c64, write_exp, write_len, write_bank, write_at, write_register, write_command}
 use Rattle.controller.specs.StartDma.{start_dma, trigger_ff00}
@@ -65,7 +65,7 @@ kept e = record { same = e }
 
 -- what both arms keep, the choice keeps
 either : {A : Type 0} {f : A → Numbers} {n : Numbers} (b : Bool) {x y : A} → Keeps f n x → Keeps f n y → Keeps f n (cond b x y)
-either {f = f} {n = n} b {x} {y} p q = by-test (Keeps f n) b x y (λ _. p) (λ _. q)
+either {f = f} {n = n} b {x} {y} p q = by_test (Keeps f n) b x y (λ _. p) (λ _. q)
 
 -- what each arm gives, the choice gives
 by_both : (b : Bool) (x y : Reu) (n k : Numbers) → of x ≡ n → of y ≡ k → of (cond b x y) ≡ cond b n k

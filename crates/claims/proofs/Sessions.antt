@@ -33,7 +33,7 @@ use Rattle.claims.specs.Calls.{Held, Memories, reset, set_enabled, trigger_ff00,
 use Rattle.claims.specs.Sessions.{play, answers, grants, shows, eleven, level, begin, ticks, r4, r5, r10, r13, r14, r16, new, enabled, run, Table, Sessions}
 use Rattle.image.proofs.Sound.{Sound}
 use Rattle.image.proofs.SoundCalls.{sound_new, sound_fresh}
-use Rattle.transfer.proofs.Sizes.{size-512}
+use Rattle.transfer.proofs.Sizes.{size_512}
 use Rattle.transfer.specs.Constants.{new_size}
 use Rattle.claims.proofs.States.{St, held, step_of, value_of, Steady, Ready, ready_of}
 use Rattle.claims.proofs.Accepted.{does_is, ready_number, ready_step}
@@ -156,7 +156,7 @@ module _ (m s : List ℕ) (mem : Memories new_size m s) where
       ap (λ (h : Held). shows h r) (play_is ds (fresh m s) ready_fresh f) ∙ shows_is (to ds (fresh m s)) (ready_to ds (fresh m s) ready_fresh f) r
 
   ready_start : Ready (start m s)
-  ready_start = ready_with (connected new_reu) (sound_fresh true true new_size size-512) refl
+  ready_start = ready_with (connected new_reu) (sound_fresh true true new_size size_512) refl
 
   start_is : enabled m s ≡ held (start m s)
   unfolding core_set_enabled
@@ -246,13 +246,13 @@ table m s mem =
       R1 = fresh_answers m s mem (read 0 ∷ read 1 ∷ read 2 ∷ read 3 ∷ read 4 ∷ read 5 ∷ read 6 ∷ read 7 ∷ read 8 ∷ read 9 ∷ read 10 ∷ []) (omega arith);
       R2 = (fresh_answers m s mem (read 0xDF0B ∷ []) (omega arith), λ h. refl);
       R3 = (fresh_shows m s mem (write 1 0x90 ∷ []) (omega arith) 1, fresh_shows m s mem (write 1 0x90 ∷ []) (omega arith) 0);
-      R3-armed = fresh_shows m s mem (write 1 0x80 ∷ other trigger_ff00 ∷ []) (omega arith) 1;
+      R3_armed = fresh_shows m s mem (write 1 0x80 ∷ other trigger_ff00 ∷ []) (omega arith) 1;
       R4 =
           λ e. let h = mem.storage_size in
           ap (λ (l : List ℕ). get_or l 0 0) (storage_of m s mem r4 (omega arith)) ∙ get_or-set_same s 0 (get_or m 4096 0) 0 (omega arith) ∙ e;
-      R4-shows = eleven_of_lem m s mem r4 (omega arith);
+      R4_shows = eleven_of_lem m s mem r4 (omega arith);
       R5 = eleven_of_lem m s mem r5 (omega arith);
-      R5-bank = (
+      R5_bank = (
         ap (λ (h : Held). (does (read 6) h).answer) (played m s mem r5 (omega arith))
             ∙ ap (λ (d : Done). d.answer) (does_ready (read 6) (to r5 (start m s)) (ready_played m s mem r5 (omega arith)) tt),
         shows_of m s mem r5 (omega arith) 6,
@@ -261,7 +261,7 @@ table m s mem =
       R7 = λ ne e. eleven_of_lem m s mem (begin 0 0 2 0x93 ++ ticks 2) (omega arith) ∙ ap eleven_of (two_compared m s ne true (eq-eqb (get_or m 1 0) (get_or s 1 0) e));
       R8 = λ ne e. eleven_of_lem m s mem (begin 0 0 2 0x93 ++ ticks 2) (omega arith) ∙ ap eleven_of (two_compared m s ne false (ne_eqb (get_or m 1 0) (get_or s 1 0) e));
       R9 = (bus_of m s mem (begin 0 0 1 0x92 ++ ticks 1) (omega arith), storage_of m s mem (begin 0 0 1 0x92 ++ ticks 1) (omega arith));
-      R9-second = (
+      R9_second = (
         bus_of m s mem (begin 0 0 1 0x92 ++ ticks 2) (omega arith),
         storage_of m s mem (begin 0 0 1 0x92 ++ ticks 2) (omega arith),
         shows_of m s mem (begin 0 0 1 0x92 ++ ticks 2) (omega arith) 0,
@@ -269,13 +269,13 @@ table m s mem =
       R10 = bus_of m s mem (begin 0 0 3 0x91 ++ r10) (omega arith);
       R11 = bus_of m s mem (begin 0 0 3 0x81 ++ (other trigger_ff00 ∷ r10)) (omega arith);
       R12 = answers_of m s mem r4 (omega arith) (write 9 0xC0 ∷ read 0 ∷ read 0 ∷ []) (omega arith);
-      R12-level = (
+      R12_level = (
         level_of m s mem (r4 ++ (write 9 0xC0 ∷ [])) (omega arith),
         level_of m s mem (r4 ++ (write 9 0xC0 ∷ read 0 ∷ [])) (omega arith),
         level_of m s mem (r4 ++ (write 9 0xC0 ∷ read 0 ∷ read 0 ∷ [])) (omega arith),
       );
       R13 = (shows_of m s mem r13 (omega arith) 2, shows_of m s mem r13 (omega arith) 3);
-      R13-written = (
+      R13_written = (
         shows_of m s mem (r13 ++ (write 2 0 ∷ [])) (omega arith) 2,
         shows_of m s mem (r13 ++ (write 2 0 ∷ [])) (omega arith) 3,
       );
@@ -283,13 +283,13 @@ table m s mem =
           let e = storage_of m s mem r14 (omega arith) in
           let b = last_and_first s (get_or m 65535 0) (get_or m 0 0) mem.storage_size in
           (ap (λ (l : List ℕ). get_or l 524287 0) e ∙ b.0, ap (λ (l : List ℕ). get_or l 0 0) e ∙ b.1);
-      R14-shows = (
+      R14_shows = (
         shows_of m s mem r14 (omega arith) 2,
         shows_of m s mem r14 (omega arith) 3,
         shows_of m s mem r14 (omega arith) 6,
       );
       R16 = grants_of m s mem (begin 0 0 1 0x92) (omega arith) r16 (omega arith);
-      R16-bytes =
+      R16_bytes =
           let e = late_fall m s mem.bus_length mem.storage_size in
           (bus_of m s mem (begin 0 0 1 0x92 ++ r16) (omega arith) ∙ e.0, storage_of m s mem (begin 0 0 1 0x92 ++ r16) (omega arith) ∙ e.1);
     }

@@ -405,12 +405,12 @@ module _ (x : St) (ready : Ready x) (idle : x.u.dma ≡ Idle) where
   abbrev b₁ : St
   b₁ = step_of (read 0) x
 
-  ready-1 : Ready b₁
-  ready-1 = ready_step x ready (read 0) first.steady first.numbers
+  ready_1 : Ready b₁
+  ready_1 = ready_step x ready (read 0) first.steady first.numbers
 
-  idle-1 : b₁.u.dma ≡ Idle
+  idle_1 : b₁.u.dma ≡ Idle
   unfolding read_register
-  idle-1 = idle
+  idle_1 = idle
 
   second : Plain b₁ (write 2 0)
   second = plain_write b₁ 2 0 (omega arith) (omega arith)
@@ -418,26 +418,26 @@ module _ (x : St) (ready : Ready x) (idle : x.u.dma ≡ Idle) where
   abbrev b₂ : St
   b₂ = step_of (write 2 0) b₁
 
-  ready-2 : Ready b₂
-  ready-2 = ready_step b₁ ready-1 (write 2 0) second.steady second.numbers
+  ready_2 : Ready b₂
+  ready_2 = ready_step b₁ ready_1 (write 2 0) second.steady second.numbers
 
-  idle-2 : b₂.u.dma ≡ Idle
+  idle_2 : b₂.u.dma ≡ Idle
   unfolding write_register
-  idle-2 = idle-1
+  idle_2 = idle_1
 
   third : Plain b₂ high_cycle
   third = plain_cycle b₂
 
-  idle-3 : (step_of high_cycle b₂).u.dma ≡ Idle
-  idle-3 = (idle_high b₂ 1 0 0 1 third.high idle-2).kept.dma
+  idle_3 : (step_of high_cycle b₂).u.dma ≡ Idle
+  idle_3 = (idle_high b₂ 1 0 0 1 third.high idle_2).kept.dma
 
   abbrev three_calls : List Call
   three_calls = on x (read 0) ∷ on b₁ (write 2 0) ∷ on b₂ high_cycle ∷ []
 
   trace_b : Trace (λ y d. IsIdle (leaves (on y d))) x three_calls (step_of high_cycle b₂)
   trace_b =
-      more first (stays x (read 0) ready first idle-1)
-      (more second (stays b₁ (write 2 0) ready-1 second idle-2) (more third (stays b₂ high_cycle ready-2 third idle-3) done))
+      more first (stays x (read 0) ready first idle_1)
+      (more second (stays b₁ (write 2 0) ready_1 second idle_2) (more third (stays b₂ high_cycle ready_2 third idle_3) done))
 
   run_b : RunB (held x) three_calls
   run_b = record { run = trace_run trace_b ready; stays_idle = trace_each (λ h c. IsIdle (leaves c)) (λ y d o i. i) trace_b ready }

@@ -94,15 +94,15 @@ module _ (m s : List ℕ) where
     -- Never enabled, COMMAND $90: COMMAND $10, STATUS $10
     pub R3 : (shows (play (write command 0x90 ∷ []) new) command ≡ 0x10) × (shows (play (write command 0x90 ∷ []) new) status ≡ 0x10)
     -- COMMAND $80 then FF00: COMMAND $00
-    pub R3-armed : shows (play (write command 0x80 ∷ other trigger_ff00 ∷ []) new) command ≡ 0x00
+    pub R3_armed : shows (play (write command 0x80 ∷ other trigger_ff00 ∷ []) new) command ≡ 0x00
     -- Store, C64 $1000 holding $A5, expansion 0, length 1, COMMAND $90: one tick, storage 0 is $A5
     pub R4 : get_or m 0x1000 0 ≡ 0xA5 → get_or (run r4).storage 0 0 ≡ 0xA5
     -- STATUS $50, C64 $1001, expansion low 1, length 1, COMMAND $10
-    pub R4-shows : eleven (run r4) ≡ 0x50 ∷ 0x10 ∷ 0x01 ∷ 0x10 ∷ 0x01 ∷ 0x00 ∷ 0xF8 ∷ 0x01 ∷ 0x00 ∷ 0x1F ∷ 0x3F ∷ []
+    pub R4_shows : eleven (run r4) ≡ 0x50 ∷ 0x10 ∷ 0x01 ∷ 0x10 ∷ 0x01 ∷ 0x00 ∷ 0xF8 ∷ 0x01 ∷ 0x00 ∷ 0x1F ∷ 0x3F ∷ []
     -- Store, C64 $2000, length 2, COMMAND $B0, no bank write: afterwards C64 $2000, length 2, COMMAND $30
     pub R5 : eleven (run r5) ≡ 0x50 ∷ 0x30 ∷ 0x00 ∷ 0x20 ∷ 0x00 ∷ 0x00 ∷ 0x00 ∷ 0x02 ∷ 0x00 ∷ 0x1F ∷ 0x3F ∷ []
     -- bank reads $F8 but `debug_register` 6 is $00
-    pub R5-bank : ((does (read exp_bank) (run r5)).answer ≡ 0xF8) × (shows (run r5) exp_bank ≡ 0x00)
+    pub R5_bank : ((does (read exp_bank) (run r5)).answer ≡ 0xF8) × (shows (run r5) exp_bank ≡ 0x00)
     -- Verify length 3, first byte differs: one tick, STATUS $30, length 2
     pub R6 :
         get_or m 0 0 ≢ get_or s 0 0
@@ -118,7 +118,7 @@ module _ (m s : List ℕ) where
     -- Swap length 1, bus $11, storage $22, COMMAND $92: after tick 1 both are $11
     pub R9 : ((run (begin 0 0 1 0x92 ++ ticks 1)).bus ≡ m) × ((run (begin 0 0 1 0x92 ++ ticks 1)).storage ≡ set s 0 (get_or m 0 0))
     -- after tick 2 bus $22, storage $11, STATUS $50
-    pub R9-second :
+    pub R9_second :
         ((run (begin 0 0 1 0x92 ++ ticks 2)).bus ≡ set m 0 (get_or s 0 0)) × ((run (begin 0 0 1 0x92 ++ ticks 2)).storage ≡ set s 0 (get_or m 0 0))
         × (shows (run (begin 0 0 1 0x92 ++ ticks 2)) status ≡ 0x50)
     -- Recall length 3 of $11 22 33, COMMAND $91, `ba_high_phi1` low on the first call only: bus $11 11 33
@@ -130,25 +130,25 @@ module _ (m s : List ℕ) where
     -- R4, then mask $C0: STATUS reads $D0, next $10
     pub R12 : answers (write interrupt_mask 0xC0 ∷ read status ∷ read status ∷ []) (run r4) ≡ 0 ∷ 0xD0 ∷ 0x10 ∷ []
     -- level low (it was high, and falls with the first read)
-    pub R12-level :
+    pub R12_level :
         (level (run (r4 ++ (write interrupt_mask 0xC0 ∷ []))) ≡ true)
         × (level (run (r4 ++ (write interrupt_mask 0xC0 ∷ read status ∷ []))) ≡ false)
         × (level (run (r4 ++ (write interrupt_mask 0xC0 ∷ read status ∷ read status ∷ []))) ≡ false)
     -- Store from $10FF, length 1: C64 $1100
     pub R13 : (shows (run r13) c64_low ≡ 0x00) × (shows (run r13) c64_high ≡ 0x11)
     -- writing 0 to register 2 gives $1000
-    pub R13-written :
+    pub R13_written :
         (shows (run (r13 ++ (write c64_low 0 ∷ []))) c64_low ≡ 0x00) × (shows (run (r13 ++ (write c64_low 0 ∷ []))) c64_high ≡ 0x10)
     -- Store length 2 from $FFFF to $FFFFFF: offsets 524,287 and 0
     pub R14 : (get_or (run r14).storage 524287 0 ≡ get_or m 0xFFFF 0) × (get_or (run r14).storage 0 0 ≡ get_or m 0 0)
     -- C64 $0001, bank latch $00
-    pub R14-shows : (shows (run r14) c64_low ≡ 0x01) × (shows (run r14) c64_high ≡ 0x00) × (shows (run r14) exp_bank ≡ 0x00)
+    pub R14_shows : (shows (run r14) c64_low ≡ 0x01) × (shows (run r14) c64_high ≡ 0x00) × (shows (run r14) exp_bank ≡ 0x00)
     -- Swap length 1, bus c, storage r (any two bytes): Transfer, Hold, Transfer, Transfer, Transfer
     pub R16 :
         grants r16 (run (begin 0 0 1 0x92))
         ≡ action_number Transfer ∷ action_number Hold ∷ action_number Transfer ∷ action_number Transfer ∷ action_number Transfer ∷ []
     -- both bytes end as c
-    pub R16-bytes : ((run (begin 0 0 1 0x92 ++ r16)).bus ≡ m) × ((run (begin 0 0 1 0x92 ++ r16)).storage ≡ set s 0 (get_or m 0 0))
+    pub R16_bytes : ((run (begin 0 0 1 0x92 ++ r16)).bus ≡ m) × ((run (begin 0 0 1 0x92 ++ r16)).storage ≡ set s 0 (get_or m 0 0))
 
 abbrev pub Sessions : Type 0
 Sessions = (m s : List ℕ) → Memories new_size m s → Table m s

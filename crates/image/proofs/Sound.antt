@@ -21,7 +21,7 @@ use Rattle.transfer.specs.Dma.{is_type, is_write_phase}
 use Rattle.transfer.specs.Memory.{is_size, chip_mark}
 use Rattle.regs.specs.FinishDma.{counters}
 use Rattle.controller.specs.Enable.{fresh, with_mark}
-use Rattle.transfer.proofs.Pick.{by-test, fst}
+use Rattle.transfer.proofs.Pick.{by_test, fst}
 use Rattle.transfer.proofs.Bits.{bit_one, and_one, and_none, or_none, or_one}
 use Rattle.image.proofs.Packed.{all_below}
 
@@ -108,7 +108,7 @@ fresh_regs e a size = record { len = refl; fits = go }
 
 -- an event, where the test holds
 pub raise : {k : Bool} (e : ℕ) → Events e → (b : Bool) {l : List ℕ} → SoundRegs k l → SoundRegs k (cond b (set l 0 (bit_or (get_or l 0 0) e)) l)
-raise {k} e h b {l} r = by-test (SoundRegs k) b _ l (λ _. store 0 r (raised_fits e h (r.fits 0))) (λ _. r)
+raise {k} e h b {l} r = by_test (SoundRegs k) b _ l (λ _. store 0 r (raised_fits e h (r.fits 0))) (λ _. r)
 
 -- a byte of a counter, the two of an address or a length, and all seven
 count : {k : Bool} (i n : ℕ) → plain i ≡ true → {l : List ℕ} → SoundRegs k l → SoundRegs k (set l i (n % 256))

@@ -45,8 +45,8 @@ use Rattle.transfer.specs.Timing.{read_again, restored, resumes, swap_reads, swa
 use Rattle.controller.specs.TickDma.{advance, tick_store, tick_recall, swap_read, swap_write, tick_swap, differs, with_error, tick_verify, tick_by_type, tick_refresh, tick_tail, tick_running, tick_of, tick_dma}
 use Rattle.transfer.specs.Dma.{seen_by}
 use Rattle.controller.specs.Cycle.{counted, most_granted, cycle_by, run_reu_cycle}
-use Rattle.transfer.proofs.Pick.{by-test, fst, snd}
-use Rattle.transfer.proofs.Sizes.{size-512}
+use Rattle.transfer.proofs.Pick.{by_test, fst, snd}
+use Rattle.transfer.proofs.Sizes.{size_512}
 use Rattle.image.specs.Valid.{Bytes}
 use Rattle.image.proofs.Sound.{SoundRegs, fresh_regs, and_byte, set_each, store, plain_fits, cleared_fits, mask_fits, control_fits, raise, count_pair, count_all, SoundTransfer, SoundDma, with_step_lem, Sound, with_regs_lem, with_shadows_lem, with_delay_lem, with_dma_lem, with_granted_lem, with_size_lem}
 
@@ -55,8 +55,8 @@ use Rattle.image.proofs.Sound.{SoundRegs, fresh_regs, and_byte, set_each, store,
 pub sound_read : (u : Reu) (a : ℕ) → Sound u → Sound (read_register u a).reu
 unfolding read_register
 sound_read u a s =
-    by-test (λ (r : ReadAnswer). Sound r.reu) (ltb (bit_and a 31) 11) _ _
-    (λ _. by-test (λ (r : ReadAnswer). Sound r.reu) (eqb (bit_and a 31) 0) _ _
+    by_test (λ (r : ReadAnswer). Sound r.reu) (ltb (bit_and a 31) 11) _ _
+    (λ _. by_test (λ (r : ReadAnswer). Sound r.reu) (eqb (bit_and a 31) 0) _ _
     (λ _. with_regs_lem s (store 0 s.regs (cleared_fits 31 refl (s.regs.fits 0))))
     (λ _. s))
     (λ _. s)
@@ -67,7 +67,7 @@ sound_irq u s = with_regs_lem s (raise 128 (omega arith) (irq_due u.regs) s.regs
 
 pub length_range : (q : ℕ) → q < 65536 → (1 ≤ length_of q) × (length_of q ≤ 65536)
 unfolding length_of
-length_range q h = by-test (λ (n : ℕ). (1 ≤ n) × (n ≤ 65536)) (eqb q 0) 65536 q (λ _. omega arith) (λ ne. omega (arith, eqb-false q 0 ne))
+length_range q h = by_test (λ (n : ℕ). (1 ≤ n) × (n ≤ 65536)) (eqb q 0) 65536 q (λ _. omega arith) (λ ne. omega (arith, eqb-false q 0 ne))
 
 sound_requested : (u : Reu) → Sound u → u.attached ≡ true → SoundTransfer u.attached (requested u.regs)
 unfolding requested
@@ -88,7 +88,7 @@ sound_requested u s att =
 sound_start : (u : Reu) → Sound u → Sound (start_dma u)
 unfolding start_dma
 sound_start u s =
-    by-test Sound u.attached _ _
+    by_test Sound u.attached _ _
     (λ att. with_granted_lem (with_dma_lem (with_regs_lem (with_delay_lem s (omega arith)) (store 0 s.regs (cleared_fits 16 refl (s.regs.fits 0)))) (sound_requested u s att)) (omega arith))
     (λ _. with_regs_lem (with_delay_lem s (omega arith)) (store 1 s.regs (plain_fits 1 refl (and_byte (reg u 1) 127 (s.regs.fits 1).byte))))
 
@@ -96,14 +96,14 @@ sound_command : (u : Reu) (v : ℕ) → Sound u → v < 256 → Sound (write_com
 unfolding write_command
 sound_command u v s h =
     let w : Sound (set_reg u 1 v) = with_regs_lem s (store 1 s.regs (plain_fits 1 refl h)) in
-    by-test Sound (bit v 7) _ _ (λ _. by-test Sound (bit v 4) _ _ (λ _. sound_start (with_armed (set_reg u 1 v) false) w) (λ _. w)) (λ _. w)
+    by_test Sound (bit v 7) _ _ (λ _. by_test Sound (bit v 4) _ _ (λ _. sound_start (with_armed (set_reg u 1 v) false) w) (λ _. w)) (λ _. w)
 
 -- soundness as a record of the controller, so that a chain of choices is compared choice by choice
 record Chosen (u : Reu) : Type 0 where
   sound : Sound u
 
 choose : (b : Bool) (x y : Reu) → Sound x → Chosen y → Chosen (cond b x y)
-choose b x y h k = by-test Chosen b x y (λ _. record { sound = h }) (λ _. k)
+choose b x y h k = by_test Chosen b x y (λ _. record { sound = h }) (λ _. k)
 
 pub sound_write : (u : Reu) (a v : ℕ) → Sound u → v < 256 → Sound (write_register u a v)
 unfolding write_register
@@ -128,7 +128,7 @@ sound_write u a v s h =
 
 pub sound_trigger : (u : Reu) → Sound u → Sound (trigger_ff00 u)
 unfolding trigger_ff00
-sound_trigger u s = by-test Sound (u.waiting_ff00 && bit (reg u 1) 7) (start_dma u) u (λ _. sound_start u s) (λ _. s)
+sound_trigger u s = by_test Sound (u.waiting_ff00 && bit (reg u 1) 7) (start_dma u) u (λ _. sound_start u s) (λ _. s)
 
 -- ---- new, reset, the size, the enable switch
 
@@ -137,7 +137,7 @@ sound_fresh e a size h =
     record { regs = fresh_regs e a size; c64 = omega arith; exp = omega arith; len = omega arith; delay = omega arith; dma = tt; granted = omega arith; size = h }
 
 pub sound_new : Sound new_reu
-sound_new = sound_fresh false false new_size size-512
+sound_new = sound_fresh false false new_size size_512
 
 pub sound_size : (u : Reu) (size : ℕ) → Sound u → is_size size ≡ true → Sound (set_size u size)
 unfolding set_size
@@ -183,21 +183,21 @@ module _ (u : Reu) (s : Sound u) where
   on_fall : (late : Bool) → SoundGrant (fall u late)
   unfolding fall plain fall_on_read fall_on_swap_write fall_on_write
   on_fall late =
-      by-test SoundGrant (swap_reads u.dma) _ _
-      (λ _. by-test SoundGrant (is_first_byte u.dma) _ _ (λ _. grant s tt)
-      (λ _. by-test SoundGrant (is_last_byte u.dma) _ _ (λ _. grant s tt) (λ _. grant (with_delay_lem s (omega arith)) tt)))
-      (λ _. by-test SoundGrant (reads (c64_access u)) _ _ (λ _. grant s tt)
-      (λ _. by-test SoundGrant (swap_writes u.dma) _ _
-      (λ _. by-test SoundGrant late _ _ (λ _. grant (with_delay_lem s (omega arith)) tt)
+      by_test SoundGrant (swap_reads u.dma) _ _
+      (λ _. by_test SoundGrant (is_first_byte u.dma) _ _ (λ _. grant s tt)
+      (λ _. by_test SoundGrant (is_last_byte u.dma) _ _ (λ _. grant s tt) (λ _. grant (with_delay_lem s (omega arith)) tt)))
+      (λ _. by_test SoundGrant (reads (c64_access u)) _ _ (λ _. grant s tt)
+      (λ _. by_test SoundGrant (swap_writes u.dma) _ _
+      (λ _. by_test SoundGrant late _ _ (λ _. grant (with_delay_lem s (omega arith)) tt)
       (λ _. let g = again u.attached u.dma s.dma in grant (with_dma_lem s g.0) g.1))
-      (λ _. by-test SoundGrant (writes (c64_access u)) _ _
-      (λ _. by-test SoundGrant (is_last_byte u.dma) _ _ (λ _. grant s tt) (λ _. grant s tt)) (λ _. grant s tt))))
+      (λ _. by_test SoundGrant (writes (c64_access u)) _ _
+      (λ _. by_test SoundGrant (is_last_byte u.dma) _ _ (λ _. grant s tt) (λ _. grant s tt)) (λ _. grant s tt))))
 
   sound_decide : (high falling late : Bool) → SoundGrant (decide u high falling late)
   unfolding decide plain
   sound_decide high falling late =
-      by-test SoundGrant u.terminal_swap_write _ _ (λ _. grant s tt)
-      (λ _. by-test SoundGrant (eqb u.swap_read_delay 0) _ _ (λ _. by-test SoundGrant falling _ _ (λ _. on_fall late) (λ _. grant s tt))
+      by_test SoundGrant u.terminal_swap_write _ _ (λ _. grant s tt)
+      (λ _. by_test SoundGrant (eqb u.swap_read_delay 0) _ _ (λ _. by_test SoundGrant falling _ _ (λ _. on_fall late) (λ _. grant s tt))
       (λ _. grant (with_delay_lem s (omega (arith, s.delay))) tt))
 
 pub sound_next : (u : Reu) (high phi1 : Bool) (cycle : ℕ) → Sound u → SoundGrant (next_action u high phi1 cycle)
@@ -207,9 +207,9 @@ sound_next u high phi1 cycle s =
     let resume = resumes u.dma (not u.ba_was_high && phi1) cycle in
     let now = with_history u phi1 (phi1 && not high) in
     let g = again u.attached u.dma s.dma in
-    let ready : Sound (resumed now resume) = by-test Sound resume (with_dma now (read_again u.dma)) now (λ _. with_dma_lem s g.0) (λ _. s) in
+    let ready : Sound (resumed now resume) = by_test Sound resume (with_dma now (read_again u.dma)) now (λ _. with_dma_lem s g.0) (λ _. s) in
     let decided = sound_decide (repeated (resumed now resume) falling) ready phi1 falling u.late_ba_fall in
-    grant decided.sound (by-test FitsPut resume (restored u.dma) _ (λ _. g.1) (λ _. decided.put))
+    grant decided.sound (by_test FitsPut resume (restored u.dma) _ (λ _. g.1) (λ _. decided.put))
 
 -- ---- a tick
 
@@ -221,7 +221,7 @@ unfolding publish_live_counters
 sound_publish u d s = with_regs_lem s (count_all d.c64_addr.0 d.reu_addr.0 d.remaining s.regs)
 
 autoloaded_regs : {k : Bool} (b : Bool) (c e n : ℕ) {l : List ℕ} → SoundRegs k l → SoundRegs k (autoloaded l b c e n)
-autoloaded_regs {k} b c e n r = by-test (SoundRegs k) b _ _ (λ _. count_all c e n r) (λ _. r)
+autoloaded_regs {k} b c e n r = by_test (SoundRegs k) b _ _ (λ _. count_all c e n r) (λ _. r)
 
 finished_command_lem : {k : Bool} (l : List ℕ) → SoundRegs k l → SoundRegs k (finished_command l)
 finished_command_lem l r =
@@ -245,10 +245,10 @@ sound_moved att d h e =
     let hi = h.high in
     record {
       present = h.present;
-      c64 = by-test (λ (a : C64Address). a.0 < 65536) d.fix_c64 d.c64_addr (next_c64 d.c64_addr) (λ _. h.c64) (λ _. omega arith);
-      exp = by-test (λ (a : ExpansionAddress). a.0 < 16777216) d.fix_reu d.reu_addr (next_exp d.reu_addr) (λ _. h.exp) (λ _. omega arith);
-      low = by-test (λ (q : ℕ). 1 ≤ q) (eqb d.remaining 1) d.remaining (d.remaining - 1) (λ _. lo) (λ ne. omega (arith, eqb-false d.remaining 1 ne));
-      high = by-test (λ (q : ℕ). q ≤ 65536) (eqb d.remaining 1) d.remaining (d.remaining - 1) (λ _. hi) (λ ne. omega arith);
+      c64 = by_test (λ (a : C64Address). a.0 < 65536) d.fix_c64 d.c64_addr (next_c64 d.c64_addr) (λ _. h.c64) (λ _. omega arith);
+      exp = by_test (λ (a : ExpansionAddress). a.0 < 16777216) d.fix_reu d.reu_addr (next_exp d.reu_addr) (λ _. h.exp) (λ _. omega arith);
+      low = by_test (λ (q : ℕ). 1 ≤ q) (eqb d.remaining 1) d.remaining (d.remaining - 1) (λ _. lo) (λ ne. omega (arith, eqb-false d.remaining 1 ne));
+      high = by_test (λ (q : ℕ). q ≤ 65536) (eqb d.remaining 1) d.remaining (d.remaining - 1) (λ _. hi) (λ ne. omega arith);
       latch = h.latch;
       phase = refl;
       tail = ap (λ (b : Bool). not b || (is_type d.transfer_type Verify && eqb (moved d).remaining 1)) e;
@@ -262,12 +262,12 @@ sound_advance u d error low put s h e v p =
     let mv = sound_moved u.attached d h e in
     let pu = sound_publish u (moved d) s in
     let left = (moved d).remaining in
-    by-test SoundTick (error && (not (eqb d.remaining 1) && eqb left 1)) _ _
+    by_test SoundTick (error && (not (eqb d.remaining 1) && eqb left 1)) _ _
     (λ q.
     let now = snd error (not (eqb d.remaining 1) && eqb left 1) q in
     let of-verify = v (fst error (not (eqb d.remaining 1) && eqb left 1) q) in
     tick (with_dma_lem pu (with_step_lem mv mv.latch refl (ap (λ (b : Bool). b && eqb left 1) of-verify ∙ snd (not (eqb d.remaining 1)) (eqb left 1) now))) p)
-    (λ _. by-test SoundTick (eqb d.remaining 1 || error) _ _
+    (λ _. by_test SoundTick (eqb d.remaining 1 || error) _ _
     (λ _. tick (sound_finish (with_release (publish_live_counters u (moved d)) (eqb d.remaining 1 && (is_type d.transfer_type Swap && not low))) (moved d) (eqb d.remaining 1) pu) p)
     (λ _. tick (with_dma_lem pu mv) p))
 
@@ -286,7 +286,7 @@ module _ (u : Reu) (d : DmaState) (b : Seen) (s : Sound u) (h : SoundTransfer u.
     sound_by_type Store et = sound_advance u d false low _ s h e never see.0
     sound_by_type Recall et =
         let v : recalled d u.recall_repeat b < 256
-        = by-test (λ (x : ℕ). x < 256) (u.recall_repeat && not d.first_byte) d.latch b.storage (λ _. h.latch) (λ _. see.1) in
+        = by_test (λ (x : ℕ). x < 256) (u.recall_repeat && not d.first_byte) d.latch b.storage (λ _. h.latch) (λ _. see.1) in
         sound_advance (with_repeat u (u.recall_repeat && d.first_byte)) (with_latch d (recalled d u.recall_repeat b)) false low _ s (with_step_lem h v h.phase h.tail) e never v
     sound_by_type Swap et = sound_by_phase d.swap_phase et
     sound_by_type Verify et =
@@ -296,15 +296,15 @@ module _ (u : Reu) (d : DmaState) (b : Seen) (s : Sound u) (h : SoundTransfer u.
   sound_running : (cycle : ℕ) (low : Bool) → SoundTick (tick_running u d b cycle low)
   unfolding tick_running tick_refresh tick_tail
   sound_running cycle low =
-      by-test SoundTick u.swap_refresh _ _ (λ _. tick (with_dma_lem s h) see.0)
-      (λ _. by-test SoundTick d.verify_tail _ _ (λ _. tick (sound_finish u d (not (differs b)) s) tt)
+      by_test SoundTick u.swap_refresh _ _ (λ _. tick (with_dma_lem s h) see.0)
+      (λ _. by_test SoundTick d.verify_tail _ _ (λ _. tick (sound_finish u d (not (differs b)) s) tt)
       (λ e. sound_by_type e cycle low d.transfer_type refl))
 
 sound_of_dma : (x : Dma) (u : Reu) (b : Seen) (cycle : ℕ) (low : Bool) → Sound u → SoundDma u.attached x → FitsSeen b → SoundTick (tick_of x u b cycle low)
 unfolding tick_of
 sound_of_dma Idle u b cycle low s h see = tick s tt
 sound_of_dma (Running d) u b cycle low s h see =
-    by-test SoundTick u.attached _ _ (λ _. sound_running u d b s h see cycle low) (λ _. tick (with_dma_lem s tt) tt)
+    by_test SoundTick u.attached _ _ (λ _. sound_running u d b s h see cycle low) (λ _. tick (with_dma_lem s tt) tt)
 
 -- ---- on a bus and a storage
 
@@ -338,7 +338,7 @@ sound_counted : (u : Reu) → Sound u → Sound (counted u)
 unfolding counted
 sound_counted u s =
     let n = u.granted_cycles + 1 in
-    with_granted_lem s (by-test (λ (g : ℕ). g < 4294967296) (leb n most_granted) n most_granted (λ e. omega (arith, leb-true n most_granted e)) (λ _. omega arith))
+    with_granted_lem s (by_test (λ (g : ℕ). g < 4294967296) (leb n most_granted) n most_granted (λ e. omega (arith, leb-true n most_granted e)) (λ _. omega arith))
 
 module _ (P Q : List ℕ → Type 0) (p : Memory P) (q : Memory Q) where
   put_bus_lem : (put : Put) (m : List ℕ) → FitsPut put → P m → P (put_bus put m)
@@ -362,7 +362,7 @@ module _ (P Q : List ℕ → Type 0) (p : Memory P) (q : Memory Q) where
         record {
           sound = sound_switch u s true h.sound;
           bus = h.bus;
-          storage = by-test Q u.attached s (zeros s) (λ _. h.storage) (λ _. q.cleared s h.storage);
+          storage = by_test Q u.attached s (zeros s) (λ _. h.storage) (λ _. q.cleared s h.storage);
         }
     sound_enabled false = record { sound = sound_switch u s false h.sound; bus = h.bus; storage = h.storage }
 

@@ -5,7 +5,7 @@ use Prim.Native.Nat.{ℕ}
 use lib.ListN.{replicate}
 use Rattle.controller.specs.Calls.{dma_active_call}
 use Rattle.transfer.specs.Dma.{length_of, type_of}
-use Rattle.transfer.proofs.Sizes.{size-512}
+use Rattle.transfer.proofs.Sizes.{size_512}
 use Rattle.controller.specs.Refusals.{checked, refusal_of, well_formed}
 use Rattle.image.specs.Layout.{image_size, reu_at}
 use Rattle.image.specs.Open.{bytes_ok, image_ok, open_image}
@@ -70,7 +70,7 @@ options = refl
 
 runs : reu_dma_active image ≡ 1
 unfolding image look checked open_image image_ok bytes_ok well_formed dma_active_call refusal_of code reu_at type_of length_of
-runs = simp size-512
+runs = simp size_512
 
 too_short : reu_dma_active (replicate 34 0) ≡ 16777216
 unfolding look checked open_image

@@ -9,7 +9,7 @@ use lib.ListN.{length, drop, take}
 use lib.Seq.{drop-drop, get_or-drop}
 use Rattle.transfer.specs.Dma.{length_of}
 use Rattle.transfer.specs.Memory.{is_size, physical_offset}
-use Rattle.transfer.proofs.Sizes.{size-128, size-256, size-512, size_lines}
+use Rattle.transfer.proofs.Sizes.{size_128, size_256, size_512, size_lines}
 use Rattle.image.specs.Fields.{lifted, radices, size}
 use Rattle.image.specs.Layout.{at, fields, granted_field, more_flags, place_of, remaining, reu_at, size_of}
 use Rattle.image.specs.Radix.{joined}
@@ -59,9 +59,9 @@ module _ (s : List ℕ) where
       code = byte_at s (place_of more_flags) / 4
 
       go : (x y : Bool) → is_size (cond x 524288 (cond y 262144 131072)) ≡ true
-      go true y = size-512
-      go false true = size-256
-      go false false = size-128
+      go true y = size_512
+      go false true = size_256
+      go false false = size_128
 
   pub its_place : (a : ℕ) → a % size_in s ≡ (physical_offset (size_in s) record { 0 = a }).0
   its_place a = ap (λ (n : ℕ). a % n) (sym (size_lines (size_in s) one_of_three).power)

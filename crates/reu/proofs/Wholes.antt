@@ -16,7 +16,7 @@ use Rattle.controller.specs.TickDma.{Ticked, quiet_step, tick_dma}
 use Rattle.controller.specs.Cycle.{run_reu_cycle}
 use Rattle.controller.specs.Calls.{numbered, answered, refused, reset_call, set_size_call, set_enabled_call, storage_present_call, capacity_bytes_call, trigger_call, read_call, write_call, dma_active_call, bus_action_call, cpu_ready_call, debug_register_call, c64_access_call, tick_call, cycle_call}
 use Rattle.controller.proofs.Checked.{size_accepted, tick_accepted, cycle_accepted}
-use Rattle.transfer.proofs.Pick.{by-test}
+use Rattle.transfer.proofs.Pick.{by_test}
 use Rattle.image.specs.Valid.{Bytes}
 use Rattle.image.proofs.Sound.{Sound}
 use Rattle.image.proofs.SoundCalls.{SoundState, bytes_memory, sound_fresh, sound_size, sound_trigger, sound_read, sound_write, sound_next, sound_switch, sound_tick_dma, sound_cycle}
@@ -34,7 +34,7 @@ module _ (u : Reu) (s : Sound u) where
   tested : {A : Type 0} (f : A → Answer) (n : ℕ) (r : ℕ → A) (d : A) → ((k : ℕ) → Whole (f (r k))) → Whole (f d)
       → Whole (f (checked n r d))
   unfolding checked
-  tested f n r d h g = by-test (λ (x : _). Whole (f x)) (eqb n 0) d (r n) (λ _. g) (λ _. h n)
+  tested f n r d h g = by_test (λ (x : _). Whole (f x)) (eqb n 0) d (r n) (λ _. g) (λ _. h n)
 
   alone : (n v : ℕ) (w : Reu) → Sound w → Whole (checked n (refused u) (answered v w))
   alone n v w h = tested (λ (a : Answer). a) n (refused u) (answered v w) not_done (done v w h)
@@ -81,7 +81,7 @@ module _ (u : Reu) (s : Sound u) where
   pub set_size_whole : (size : ℕ) → Whole (set_size_call u size)
   unfolding set_size_call checked
   set_size_whole size =
-      by-test Whole (eqb n 0) (answered 0 (set_size u size)) (refused u n)
+      by_test Whole (eqb n 0) (answered 0 (set_size u size)) (refused u n)
       (λ z. done 0 (set_size u size) (sound_size u size s (size_accepted u n size refl (eqb-true n 0 z)))) (λ _. not_done n)
     where
       n : ℕ

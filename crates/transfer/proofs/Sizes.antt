@@ -98,26 +98,26 @@ unfolding is_size
 is_power k e lo hi =
     λ i. eq-eqb (ones (2 ^ k)) 1 (one_one k) i && (le-leb 17 (lines (2 ^ k)) (omega arith) i && le-leb (lines (2 ^ k)) 19 (omega arith) i)
 
-pub lines-17 : lines 131072 ≡ 17
+pub lines_17 : lines 131072 ≡ 17
 unfolding lines count_trailing_zeros
-lines-17 = refl
+lines_17 = refl
 
-pub lines-18 : lines 262144 ≡ 18
+pub lines_18 : lines 262144 ≡ 18
 unfolding lines count_trailing_zeros
-lines-18 = refl
+lines_18 = refl
 
-pub lines-19 : lines 524288 ≡ 19
+pub lines_19 : lines 524288 ≡ 19
 unfolding lines count_trailing_zeros
-lines-19 = refl
+lines_19 = refl
 
-pub size-128 : is_size 131072 ≡ true
-size-128 = is_power 17 lines-17 (omega arith) (omega arith)
+pub size_128 : is_size 131072 ≡ true
+size_128 = is_power 17 lines_17 (omega arith) (omega arith)
 
-pub size-256 : is_size 262144 ≡ true
-size-256 = is_power 18 lines-18 (omega arith) (omega arith)
+pub size_256 : is_size 262144 ≡ true
+size_256 = is_power 18 lines_18 (omega arith) (omega arith)
 
-pub size-512 : is_size 524288 ≡ true
-size-512 = is_power 19 lines-19 (omega arith) (omega arith)
+pub size_512 : is_size 524288 ≡ true
+size_512 = is_power 19 lines_19 (omega arith) (omega arith)
 
 -- ---- folding
 
