@@ -12,7 +12,7 @@ pub enum Source {
 }
 
 impl Source {
-    pub fn is_terminal(&self) -> bool {
+    pub(crate) fn is_terminal(&self) -> bool {
         match self {
             Source::Standard(input) => input.is_terminal(),
             Source::Script(file) => file.is_terminal(),
