@@ -9,7 +9,7 @@ use mathlib.Core.List.{List, [], ◌∷◌}
 use lib.ListN.{length}
 use lib.Dec.{eqb, ltb}
 use borrow.Author.Tests.{eq-eqb, eqb-true, eqb-false, lt-ltb, ltb-true}
-use Rattle.controller.specs.declared.reu.Answer.{Answer}
+use Rattle.controller.specs.Answers.{Answer}
 use Rattle.controller.specs.declared.reu.Reu.{Reu}
 use Rattle.controller.specs.Enable.{new_reu, set_size as core_set_size}
 use Rattle.transfer.specs.Constants.{bus_size}
@@ -17,7 +17,7 @@ use Rattle.controller.specs.Refusals.{well_formed, first_refusal, refusal_of, si
 use Rattle.controller.specs.TickDma.{Ticked, quiet_step}
 use Rattle.controller.proofs.Checked.{tick_accepted, cycle_accepted}
 use Rattle.controller.specs.Calls.{step_number, answered, refused, call, call_storage, call_both, reset_call, set_size_call, set_enabled_call, storage_present_call, capacity_bytes_call, trigger_call, read_call, write_call, dma_active_call, bus_action_call, cpu_ready_call, debug_register_call, c64_access_call, tick_call, cycle_call}
-use Rattle.image.specs.declared.Opened.{Opened}
+use Rattle.image.specs.Open.{Opened}
 use Rattle.image.specs.Layout.{image_size, pack_image}
 use Rattle.image.specs.Open.{open_image}
 use Rattle.image.proofs.Packed.{open_pack, pack_long}

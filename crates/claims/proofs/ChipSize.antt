@@ -11,15 +11,15 @@ use lib.ListN.{length, get_or, set}
 use Rattle.transfer.specs.Bytes.{bit}
 use Rattle.transfer.specs.Constants.{new_size}
 use Rattle.transfer.specs.Memory.{is_size, chip_mark}
-use Rattle.transfer.specs.declared.dma.Dma.{Dma}
-use Rattle.transfer.specs.declared.dma.Dma.TheVariants.{Idle, Running}
+use Rattle.std.specs.Prelude.{Option}
+use Rattle.std.specs.Prelude.{None, Some}
 use Rattle.transfer.proofs.Sizes.{size_lines, three_sizes, size_128, size_256, size_512, lines_17, lines_18, lines_19}
 use Rattle.controller.specs.declared.reu.Reu.{Reu}
 use Rattle.controller.specs.Enable.{new_reu, with_mark, set_size as core_set_size}
 use Rattle.controller.specs.Reu.{with_regs}
 use Rattle.controller.specs.Refusals.{first_refusal, size_refusal, checked}
 use Rattle.controller.specs.Calls.{answered, refused, set_size_call}
-use Rattle.image.specs.declared.Opened.{Opened}
+use Rattle.image.specs.Open.{Opened}
 use Rattle.image.specs.Fields.{laid}
 use Rattle.image.specs.Inner.{gets}
 use Rattle.image.specs.Layout.{fields, at, image_size, flags_of, flag_bits, more_bits, more_number, size_code, present, transfer_numbers, pack_image}
@@ -41,6 +41,7 @@ use Rattle.claims.proofs.Accepted.{alone, answer_is}
 use Rattle.claims.proofs.Walk.{number_at, left_is}
 use Rattle.claims.proofs.Look.{reg_byte, attached_bit, size_byte}
 use Rattle.claims.proofs.SavedMachine.{Holds, new_holds, accepted_holds, one_call}
+use Rattle.transfer.specs.declared.dma.DmaState.{DmaState}
 
 -- ---- which numbers pass
 
@@ -56,24 +57,24 @@ three n = (three_sizes n, back)
 
 module _ (u : Reu) where
   -- the image by STATUS and the byte of two flags and the size
-  abbrev laid_with : Dma → ℕ → ℕ → List ℕ
+  abbrev laid_with : Option DmaState → ℕ → ℕ → List ℕ
   laid_with d first more =
       laid fields
       ((first ∷ gets 1 10 u.regs)
       ++ (u.shadow_c64_addr ∷ u.shadow_reu_addr ∷ u.shadow_len ∷ flags_of (flag_bits u) ∷ more ∷ u.swap_read_delay ∷ present d
       ∷ (transfer_numbers d ++ (u.granted_cycles ∷ []))))
 
-  touched : (d : Dma) (first more v w : ℕ) → set (set (laid_with d first more) 0 v) 19 w ≡ laid_with d v w
-  touched Idle first more v w = refl
-  touched (Running d) first more v w = refl
+  touched : (d : Option DmaState) (first more v w : ℕ) → set (set (laid_with d first more) 0 v) 19 w ≡ laid_with d v w
+  touched None first more v w = refl
+  touched (Some d) first more v w = refl
 
-  first_byte : (d : Dma) (first more : ℕ) → at (laid_with d first more) 0 ≡ first
-  first_byte Idle first more = refl
-  first_byte (Running d) first more = refl
+  first_byte : (d : Option DmaState) (first more : ℕ) → at (laid_with d first more) 0 ≡ first
+  first_byte None first more = refl
+  first_byte (Some d) first more = refl
 
-  more_at : (d : Dma) (first more : ℕ) → at (laid_with d first more) 19 ≡ more
-  more_at Idle first more = refl
-  more_at (Running d) first more = refl
+  more_at : (d : Option DmaState) (first more : ℕ) → at (laid_with d first more) 19 ≡ more
+  more_at None first more = refl
+  more_at (Some d) first more = refl
 
   abbrev listed : Reu
   listed = with_regs u (gets 0 11 u.regs)

@@ -12,15 +12,15 @@ use native.Mathlib.Omega.{arith}
 use Rattle.controller.specs.declared.reu.Reu.{Reu}
 use Rattle.controller.specs.declared.reu.BusAnswer.{BusAnswer}
 use Rattle.transfer.specs.declared.dma.DmaState.{DmaState}
-use Rattle.transfer.specs.declared.dma.Dma.{Dma}
-use Rattle.transfer.specs.declared.dma.Dma.TheVariants.{Idle, Running}
+use Rattle.std.specs.Prelude.{Option}
+use Rattle.std.specs.Prelude.{None, Some}
 use Rattle.transfer.specs.declared.dma.TransferType.TheVariants.{Swap}
 use Rattle.transfer.specs.declared.dma.SwapPhase.{SwapPhase}
 use Rattle.transfer.specs.declared.dma.SwapPhase.TheVariants.{ReadC64, WriteC64}
 use Rattle.transfer.specs.declared.timing.ReuBusAction.{ReuBusAction}
 use Rattle.transfer.specs.declared.timing.ReuBusAction.TheVariants.{Cpu, Hold, Transfer}
 use Rattle.transfer.specs.Bytes.{bit}
-use Rattle.controller.specs.Reu.{reu_of, reg, with_release, with_repeat, with_delay, with_history, with_dma}
+use Rattle.controller.specs.Reu.{reg, with_release, with_repeat, with_delay, with_history, with_dma}
 use Rattle.transfer.specs.Memory.{lines, put_storage}
 use Rattle.controller.specs.Timing.{c64_access}
 use Rattle.transfer.specs.Timing.{action_for_cycle}
@@ -37,10 +37,16 @@ unfolding run_reu_cycle counted cycle_by bus_action next_action decide fall plai
 cycle_computed = tt
 
 -- u with the fields that choose what a cycle does replaced
-abbrev ready : Reu → Bool → Bool → ℕ → Bool → Bool → Dma → Reu
+abbrev ready : Reu → Bool → Bool → ℕ → Bool → Bool → Option DmaState → Reu
 ready u terminal refresh delay attached high d =
-    reu_of u.regs u.shadow_c64_addr u.shadow_reu_addr u.shadow_len u.enabled u.irq_pending attached u.waiting_ff00
-    high u.recall_repeat terminal u.late_ba_fall refresh u.swap_release_pending delay d u.granted_cycles u.size
+    record u {
+      attached = attached;
+      ba_was_high = high;
+      terminal_swap_write = terminal;
+      swap_refresh = refresh;
+      swap_read_delay = delay;
+      dma = d;
+    }
 
 -- a swap's transfer state, no address fixed
 abbrev pub swap_state : SwapPhase → ℕ → ℕ → ℕ → ℕ → Bool → Bool → Bool → DmaState
@@ -70,7 +76,7 @@ pub record Reading (u : Reu) (c e r : ℕ) : Type 0 where
   pub auto : Bool
   pub one : Bool
   pub odd : Bool
-  pub transfer : u.dma ≡ Running (swap_state ReadC64 c e r latch auto one odd)
+  pub transfer : u.dma ≡ Some (swap_state ReadC64 c e r latch auto one odd)
 
 -- a swap stands before its write phase, with the byte l in its latch
 pub record Writing (u : Reu) (c e r l : ℕ) : Type 0 where
@@ -82,15 +88,15 @@ pub record Writing (u : Reu) (c e r l : ℕ) : Type 0 where
   pub auto : Bool
   pub one : Bool
   pub odd : Bool
-  pub transfer : u.dma ≡ Running (swap_state WriteC64 c e r l auto one odd)
+  pub transfer : u.dma ≡ Some (swap_state WriteC64 c e r l auto one odd)
 
 reading_is : (u : Reu) (c e r : ℕ) (h : Reading u c e r)
-    → u ≡ ready u false false 0 true u.ba_was_high (Running (swap_state ReadC64 c e r h.latch h.auto h.one h.odd))
+    → u ≡ ready u false false 0 true u.ba_was_high (Some (swap_state ReadC64 c e r h.latch h.auto h.one h.odd))
 reading_is u c e r h =
     λ i. ready u (h.terminal i) (h.refresh i) (h.delay i) (h.attached i) u.ba_was_high (h.transfer i)
 
 writing_is : (u : Reu) (c e r l : ℕ) (h : Writing u c e r l)
-    → u ≡ ready u false false 0 true true (Running (swap_state WriteC64 c e r l h.auto h.one h.odd))
+    → u ≡ ready u false false 0 true true (Some (swap_state WriteC64 c e r l h.auto h.one h.odd))
 writing_is u c e r l h =
     λ i. ready u (h.terminal i) (h.refresh i) (h.delay i) (h.attached i) (h.high i) (h.transfer i)
 
@@ -105,8 +111,8 @@ pub record ReadStep (u : Reu) (c e r : ℕ) (m s : List ℕ) (t : Ticked) (a : R
 
 read_ready : (u : Reu) (w : Bool) (c e r l : ℕ) (auto one odd : Bool) (m s : List ℕ) (n : ℕ) (low : Bool)
     → ReadStep u c e r m s
-    (run_reu_cycle (ready u false false 0 true w (Running (swap_state ReadC64 c e r l auto one odd))) m s true true n low)
-    (bus_action (ready u false false 0 true w (Running (swap_state ReadC64 c e r l auto one odd))) s true true n).0.action
+    (run_reu_cycle (ready u false false 0 true w (Some (swap_state ReadC64 c e r l auto one odd))) m s true true n low)
+    (bus_action (ready u false false 0 true w (Some (swap_state ReadC64 c e r l auto one odd))) s true true n).0.action
 unfolding cycle_computed
 read_ready u true c e r l auto one odd m s n low =
     record {
@@ -153,8 +159,8 @@ other_counters l c e n i (inr h) = apart l c e n i (omega arith) (omega arith) (
 
 write_ready : (u : Reu) (c e r l : ℕ) (auto one odd : Bool) (m s : List ℕ) (n : ℕ) (low : Bool) → eqb r 1 ≡ false
     → WriteStep u c e r l m s
-    (run_reu_cycle (ready u false false 0 true true (Running (swap_state WriteC64 c e r l auto one odd))) m s true true n low)
-    (bus_action (ready u false false 0 true true (Running (swap_state WriteC64 c e r l auto one odd))) s true true n).0.action
+    (run_reu_cycle (ready u false false 0 true true (Some (swap_state WriteC64 c e r l auto one odd))) m s true true n low)
+    (bus_action (ready u false false 0 true true (Some (swap_state WriteC64 c e r l auto one odd))) s true true n).0.action
 unfolding cycle_computed
 write_ready u c e r l auto one odd m s n low h =
     rw h (record {
@@ -180,7 +186,7 @@ pub record Quiet (u : Reu) : Type 0 where
   pub terminal : u.terminal_swap_write ≡ false
   pub delay : u.swap_read_delay ≡ 0
   pub attached : u.attached ≡ true
-  pub idle : u.dma ≡ Idle
+  pub idle : u.dma ≡ None
 
 pub record LastStep (u : Reu) (c l : ℕ) (m s : List ℕ) (t : Ticked) (a : ReuBusAction) : Type 0 where
   pub granted : a ≡ Transfer
@@ -236,8 +242,8 @@ counters_length l c e n = simp length-set
 
 last_ready : (u : Reu) (c e l : ℕ) (auto one odd : Bool) (m s : List ℕ) (n : ℕ) (low : Bool) → length u.regs ≡ 11
     → LastStep u c l m s
-    (run_reu_cycle (ready u false false 0 true true (Running (swap_state WriteC64 c e 1 l auto one odd))) m s true true n low)
-    (bus_action (ready u false false 0 true true (Running (swap_state WriteC64 c e 1 l auto one odd))) s true true n).0.action
+    (run_reu_cycle (ready u false false 0 true true (Some (swap_state WriteC64 c e 1 l auto one odd))) m s true true n low)
+    (bus_action (ready u false false 0 true true (Some (swap_state WriteC64 c e 1 l auto one odd))) s true true n).0.action
 unfolding cycle_computed
 last_ready u c e l auto one odd m s n low len =
     record {
@@ -255,7 +261,7 @@ last_ready u c e l auto one odd m s n low len =
     d = moved (swap_state WriteC64 c e 1 l auto one odd)
 
     v : Reu
-    v = with_release (publish_live_counters (with_history (ready u false false 0 true true (Running (swap_state WriteC64 c e 1 l auto one odd))) true false) d) (not low)
+    v = with_release (publish_live_counters (with_history (ready u false false 0 true true (Some (swap_state WriteC64 c e 1 l auto one odd))) true false) d) (not low)
 
     q : Quiet (finish_dma v d true)
     q = finish_quiet v d true refl refl refl
@@ -282,14 +288,24 @@ pub record Kept (u w : Reu) : Type 0 where
 pub record IdleStep (u : Reu) (m s : List ℕ) (t : Ticked) : Type 0 where
   pub bus : t.1 ≡ m
   pub storage : t.2 ≡ s
-  pub kept : Kept (with_dma u Idle) t.0.reu
+  pub kept : Kept (with_dma u None) t.0.reu
 
 -- other flags, another delay, another count of granted cycles, and no transfer
 still : {answer waiting was repeat terminal late refresh release : Bool} {delay count : ℕ} (u : Reu) (m s : List ℕ)
     → IdleStep u m s (
       ticked answer neither
-          (reu_of u.regs u.shadow_c64_addr u.shadow_reu_addr u.shadow_len u.enabled u.irq_pending u.attached waiting was repeat terminal late
-          refresh release delay Idle count u.size),
+          (record u {
+            waiting_ff00 = waiting;
+            ba_was_high = was;
+            recall_repeat = repeat;
+            terminal_swap_write = terminal;
+            late_ba_fall = late;
+            swap_refresh = refresh;
+            swap_release_pending = release;
+            swap_read_delay = delay;
+            dma = None;
+            granted_cycles = count;
+          }),
       m,
       s,
     )
@@ -297,7 +313,7 @@ still u m s = record { bus = refl; storage = refl; kept = record { regs = λ i h
 
 -- the controller when an idle cycle's action is chosen
 abbrev before_choice : Reu → Bool → Bool → ℕ → Reu
-before_choice u refresh high delay = with_repeat (with_history (ready u false refresh delay u.attached high Idle) true false) u.recall_repeat
+before_choice u refresh high delay = with_repeat (with_history (ready u false refresh delay u.attached high None) true false) u.recall_repeat
 
 -- by whether a delay is left, and whether it ends
 idle_choice : (u : Reu) (refresh high : Bool) (delay : ℕ) (m s : List ℕ) (n : ℕ) (low : Bool) (none last : Bool)
@@ -310,18 +326,18 @@ idle_choice u refresh high delay m s n low false false v p g q = rw (q, p) (stil
 idle_choice u refresh high delay m s n low true last v p g q = rw (q, p) (still u m s)
 
 idle_ready : (u : Reu) (terminal refresh high : Bool) (delay : ℕ) (m s : List ℕ) (n : ℕ) (low : Bool)
-    → IdleStep u m s (run_reu_cycle (ready u terminal refresh delay u.attached high Idle) m s true true n low)
+    → IdleStep u m s (run_reu_cycle (ready u terminal refresh delay u.attached high None) m s true true n low)
 unfolding cycle_computed
 idle_ready u true refresh true delay m s n low = still u m s
 idle_ready u true refresh false delay m s n low = still u m s
 idle_ready u false refresh true delay m s n low =
     idle_choice u refresh true delay m s n low (eqb delay 0) (eqb delay 1) (before_choice u refresh true delay) refl
-    (next_action (ready u false refresh delay u.attached true Idle) true true n) refl
+    (next_action (ready u false refresh delay u.attached true None) true true n) refl
 idle_ready u false refresh false delay m s n low =
     idle_choice u refresh false delay m s n low (eqb delay 0) (eqb delay 1) (before_choice u refresh false delay) refl
-    (next_action (ready u false refresh delay u.attached false Idle) true true n) refl
+    (next_action (ready u false refresh delay u.attached false None) true true n) refl
 
-pub idle_step : (u : Reu) → u.dma ≡ Idle → (m s : List ℕ) (n : ℕ) (low : Bool) → IdleStep u m s (run_reu_cycle u m s true true n low)
+pub idle_step : (u : Reu) → u.dma ≡ None → (m s : List ℕ) (n : ℕ) (low : Bool) → IdleStep u m s (run_reu_cycle u m s true true n low)
 idle_step u h m s n low =
     subst (λ (v : Reu). IdleStep u m s (run_reu_cycle v m s true true n low))
     (λ i. ready u u.terminal_swap_write u.swap_refresh u.swap_read_delay u.attached u.ba_was_high (sym h i))
@@ -333,7 +349,7 @@ pub record QuietStep (t : Ticked) (a : ReuBusAction) : Type 0 where
   pub quiet : Quiet t.0.reu
 
 quiet_ready : (u : Reu) (refresh high : Bool) (m s : List ℕ) (n : ℕ) (low : Bool)
-    → QuietStep (run_reu_cycle (ready u false refresh 0 true high Idle) m s true true n low) (bus_action (ready u false refresh 0 true high Idle) s true true n).0.action
+    → QuietStep (run_reu_cycle (ready u false refresh 0 true high None) m s true true n low) (bus_action (ready u false refresh 0 true high None) s true true n).0.action
 unfolding cycle_computed
 quiet_ready u refresh true m s n low = record { granted = refl; quiet = record { terminal = refl; delay = refl; attached = refl; idle = refl } }
 quiet_ready u refresh false m s n low = record { granted = refl; quiet = record { terminal = refl; delay = refl; attached = refl; idle = refl } }

@@ -9,14 +9,14 @@ use lib.Seq.{get_or-append-add, get_or-take}
 use lib.Bits.{or_mod, or_zero_r, and_mask}
 use native.Mathlib.Omega.{arith}
 use borrow.Author.Tests.{lt-ltb}
-use Rattle.transfer.specs.declared.dma.Dma.{Dma}
-use Rattle.transfer.specs.declared.dma.Dma.TheVariants.{Idle, Running}
+use Rattle.std.specs.Prelude.{Option}
+use Rattle.std.specs.Prelude.{None, Some}
 use Rattle.transfer.specs.Bytes.{bit}
 use Rattle.controller.specs.Reu.{reg}
 use Rattle.transfer.proofs.Bits.{bit_zero, zero_bit}
 use Rattle.controller.specs.Registers.{read_at, read_register, debug_register as core_debug_register}
 use Rattle.controller.specs.declared.reu.Reu.{Reu}
-use Rattle.image.specs.declared.Opened.{Opened}
+use Rattle.image.specs.Open.{Opened}
 use Rattle.image.specs.Fields.{laid, lifted}
 use Rattle.image.specs.Open.{open_image}
 use Rattle.image.specs.Layout.{fields, image_size, at, flags, granted_field, size_of, pack_image, reu_at, present, other_numbers}
@@ -33,6 +33,7 @@ use Rattle.claims.proofs.Accepted.{alone, answer_is}
 use Rattle.claims.specs.Constants.{flags_byte, transfer_byte}
 use Rattle.claims.specs.GrantedCycles.{number}
 use Rattle.claims.proofs.RegisterLaw.{Value, Seven, two, three, four, five, six, seven, eight, is_seven}
+use Rattle.transfer.specs.declared.dma.DmaState.{DmaState}
 
 upper_bits : (v : ℕ) → v < 256 → v / 64 % 2 ≡ 0 → v / 128 % 2 ≡ 0 → v / 64 ≡ 0
 upper_bits v h a b =
@@ -99,12 +100,12 @@ module _ (x : St) (sound : Sound x.u) where
   count_number =
       omega (arith, ap (λ (l : List ℕ). at (lifted fields l) granted_field) (listed (pack_image x.u) whole), ap (λ (u : Reu). u.granted_cycles) reopened)
 
-  pub idle_byte : byte (held x) transfer_byte ≡ 0 → x.u.dma ≡ Idle
+  pub idle_byte : byte (held x) transfer_byte ≡ 0 → x.u.dma ≡ None
   idle_byte e = go x.u.dma (sym present_byte ∙ e)
     where
-      go : (d : Dma) → present d ≡ 0 → d ≡ Idle
-      go Idle p = refl
-      go (Running d) p = absurd (omega arith)
+      go : (d : Option DmaState) → present d ≡ 0 → d ≡ None
+      go None p = refl
+      go (Some d) p = absurd (omega arith)
 
   -- bit 7 of COMMAND
   pub ended_reg : Ended (held x) → reg x.u 1 / 128 % 2 ≡ 0
@@ -141,7 +142,7 @@ module _ (x : St) (sound : Sound x.u) where
 
 -- an idle controller that a command can start, no address fixed
 pub record Idling (x : St) : Type 0 where
-  pub idle : x.u.dma ≡ Idle
+  pub idle : x.u.dma ≡ None
   pub attached : x.u.attached ≡ true
   pub free : reg x.u 10 / 64 ≡ 0
 

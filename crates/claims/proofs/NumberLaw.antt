@@ -7,12 +7,12 @@ use mathlib.Core.List.{List}
 use lib.Bits.{bit_and, and_mask}
 use lib.Dec.{eqb, ltb}
 use Rattle.controller.specs.declared.reu.Reu.{Reu}
-use Rattle.controller.specs.declared.reu.ReadAnswer.{ReadAnswer}
+use Rattle.controller.specs.declared.reu.Answered.{Answered}
 use Rattle.controller.specs.declared.reu.BusAnswer.{BusAnswer}
 use Rattle.controller.specs.declared.reu.TickAnswer.{TickAnswer}
 use Rattle.transfer.specs.declared.dma.DmaState.{DmaState}
-use Rattle.transfer.specs.declared.dma.Dma.{Dma}
-use Rattle.transfer.specs.declared.dma.Dma.TheVariants.{Idle, Running}
+use Rattle.std.specs.Prelude.{Option}
+use Rattle.std.specs.Prelude.{None, Some}
 use Rattle.transfer.specs.declared.dma.TransferType.{TransferType}
 use Rattle.transfer.specs.declared.dma.TransferType.TheVariants.{Store, Recall, Swap, Verify}
 use Rattle.transfer.specs.declared.dma.SwapPhase.{SwapPhase}
@@ -43,7 +43,7 @@ Numbers = ℕ × ℕ
 abbrev pub of : Reu → Numbers
 of u = (u.granted_cycles, u.size)
 
-abbrev of_read : ReadAnswer → Numbers
+abbrev of_read : Answered ℕ → Numbers
 of_read a = of a.reu
 
 abbrev of_grant : BusAnswer → Numbers
@@ -139,10 +139,10 @@ running_kept u d b cycle low =
     either u.swap_refresh (kept refl)
     (either d.verify_tail (kept refl) (type_kept d.transfer_type u d b cycle low))
 
-dma_kept : (m : Dma) (u : Reu) (b : Seen) (cycle : ℕ) (low : Bool) → Keeps of_tick (of u) (tick_of m u b cycle low)
+dma_kept : (m : Option DmaState) (u : Reu) (b : Seen) (cycle : ℕ) (low : Bool) → Keeps of_tick (of u) (tick_of m u b cycle low)
 unfolding tick_of
-dma_kept Idle u b cycle low = kept refl
-dma_kept (Running d) u b cycle low = either u.attached (running_kept u d b cycle low) (kept refl)
+dma_kept None u b cycle low = kept refl
+dma_kept (Some d) u b cycle low = either u.attached (running_kept u d b cycle low) (kept refl)
 
 pub tick_keeps : (u : Reu) (m s : List ℕ) (cycle : ℕ) (low : Bool) → of (tick_dma u m s cycle low).0.reu ≡ of u
 unfolding tick_dma

@@ -6,7 +6,7 @@ use mathlib.Core.Logic.{◌≢◌}
 use mathlib.Core.List.{List, [], ◌∷◌, ◌++◌, append-nil}
 use lib.ListN.{length}
 use native.Mathlib.Omega.{arith}
-use Rattle.transfer.specs.declared.dma.Dma.TheVariants.{Idle}
+use Rattle.std.specs.Prelude.{None}
 use Rattle.transfer.specs.Bytes.{word, long}
 use Rattle.controller.specs.Reu.{reg}
 use Rattle.transfer.specs.Dma.{length_of}
@@ -60,12 +60,12 @@ rest m s z x hi (writes none) r = absurd none
 
 -- whatever run B writes, it stays idle, and no byte changes
 abbrev StillIdle : List ℕ → List ℕ → ℕ → (ℕ → ℕ) → St → Type 0
-StillIdle m s k g x = (x.u.dma ≡ Idle) × (x.m ≡ m) × (x.s ≡ s)
+StillIdle m s k g x = (x.u.dma ≡ None) × (x.m ≡ m) × (x.s ≡ s)
 
 abbrev IdleCall : Held → Call → Type 0
 IdleCall h c = High c.kind × AnyStep c.kind × IsIdle (leaves c)
 
-same_bytes : (x : St) {d : Kind} → High d → AnyStep d → x.u.dma ≡ Idle → ((step_of d x).m ≡ x.m) × ((step_of d x).s ≡ x.s)
+same_bytes : (x : St) {d : Kind} → High d → AnyStep d → x.u.dma ≡ None → ((step_of d x).m ≡ x.m) × ((step_of d x).s ≡ x.s)
 same_bytes x hi (reads any) e = (refl, refl)
 same_bytes x hi (writes any) e = (refl, refl)
 same_bytes x hi (cycles {high = h} {number = n} {low = l} {phi1 = p}) e = let st = idle_high x h n l p hi e in (st.bus, st.storage)

@@ -13,8 +13,8 @@ use native.Mathlib.Nat.{zero-add}
 use borrow.Author.Tests.{ne_eqb}
 use Rattle.controller.specs.declared.reu.Reu.{Reu}
 use Rattle.transfer.specs.declared.dma.DmaState.{DmaState}
-use Rattle.controller.specs.declared.reu.ReadAnswer.{ReadAnswer}
-use Rattle.transfer.specs.declared.dma.Dma.TheVariants.{Running}
+use Rattle.controller.specs.declared.reu.Answered.{Answered}
+use Rattle.std.specs.Prelude.{Some}
 use Rattle.transfer.specs.declared.dma.TransferType.{TransferType}
 use Rattle.transfer.specs.declared.dma.TransferType.TheVariants.{Store, Recall, Swap, Verify}
 use Rattle.transfer.specs.declared.dma.SwapPhase.TheVariants.{ReadC64}
@@ -94,7 +94,7 @@ module _ (u : Reu) (v : ℕ) (len : length u.regs ≡ 11) (att : u.attached ≡ 
           ∙ zero_bit (reg u 10) 6 (omega arith)
 
   started_as : Reu
-  started_as = with_granted (with_dma (with_irq (set_reg (cleared (set_reg u 1 v)) 0 (bit_and (reg (set_reg u 1 v) 0) 16)) false) (Running (requested (set_reg u 1 v).regs))) 0
+  started_as = with_granted (with_dma (with_irq (set_reg (cleared (set_reg u 1 v)) 0 (bit_and (reg (set_reg u 1 v) 0) 16)) false) (Some (requested (set_reg u 1 v).regs))) 0
 
   command_starts : write_command u v ≡ started_as
   unfolding started_as write_command start_dma requested
@@ -110,7 +110,7 @@ module _ (u : Reu) (v : ℕ) (len : length u.regs ≡ 11) (att : u.attached ≡ 
   started_begun =
       record {
         reading =
-            record { terminal = refl; refresh = refl; delay = refl; attached = att; latch = 0; auto = bit (reg (set_reg u 1 v) 1) 5; one = true; odd = false; transfer = ap Running requested_is };
+            record { terminal = refl; refresh = refl; delay = refl; attached = att; latch = 0; auto = bit (reg (set_reg u 1 v) 1) 5; one = true; odd = false; transfer = ap Some requested_is };
         command = get_or-set_other (set_reg u 1 v).regs 0 1 (bit_and (reg (set_reg u 1 v) 0) 16) 0 (omega arith) ∙ command_is;
         control = get_or-set_other (set_reg u 1 v).regs 0 10 (bit_and (reg (set_reg u 1 v) 0) 16) 0 (omega arith) ∙ other_is 10 (omega arith);
       }
@@ -123,14 +123,14 @@ module _ (u : Reu) (v : ℕ) (len : length u.regs ≡ 11) (att : u.attached ≡ 
 -- ---- a read
 
 read_kept : (u : Reu) (b c : Bool) (x y z : ℕ)
-    → Kept u (cond {A = ReadAnswer} b (cond c (record { value = x; reu = with_irq (set_reg u 0 y) false }) (record { value = z; reu = u })) (record { value = 255; reu = u })).reu
+    → Kept u (cond {A = Answered ℕ} b (cond c (record { value = x; reu = with_irq (set_reg u 0 y) false }) (record { value = z; reu = u })) (record { value = 255; reu = u })).reu
 read_kept u true true x y z =
     record { regs = λ i h. get_or-set_other u.regs 0 i y 0 h; c64 = refl; exp = refl; len = refl; attached = refl; dma = refl }
 read_kept u true false x y z = record { regs = λ i h. refl; c64 = refl; exp = refl; len = refl; attached = refl; dma = refl }
 read_kept u false c x y z = record { regs = λ i h. refl; c64 = refl; exp = refl; len = refl; attached = refl; dma = refl }
 
 read_quiet : (u : Reu) (b c : Bool) (x y z : ℕ) → Quiet u
-    → Quiet (cond {A = ReadAnswer} b (cond c (record { value = x; reu = with_irq (set_reg u 0 y) false }) (record { value = z; reu = u })) (record { value = 255; reu = u })).reu
+    → Quiet (cond {A = Answered ℕ} b (cond c (record { value = x; reu = with_irq (set_reg u 0 y) false }) (record { value = z; reu = u })) (record { value = 255; reu = u })).reu
 read_quiet u true true x y z q = record { terminal = q.terminal; delay = q.delay; attached = q.attached; idle = q.idle }
 read_quiet u true false x y z q = q
 read_quiet u false c x y z q = q

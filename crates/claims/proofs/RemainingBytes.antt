@@ -9,8 +9,8 @@ use native.Mathlib.Nat.{add-mul-mod_self_left, mod-eq_of_lt}
 use native.Mathlib.Omega.{arith}
 use borrow.Author.Tests.{eqb-true}
 use Rattle.transfer.specs.declared.dma.DmaState.{DmaState}
-use Rattle.transfer.specs.declared.dma.Dma.{Dma}
-use Rattle.transfer.specs.declared.dma.Dma.TheVariants.{Idle, Running}
+use Rattle.std.specs.Prelude.{Option}
+use Rattle.std.specs.Prelude.{None, Some}
 use Rattle.transfer.specs.declared.dma.TransferType.TheVariants.{Verify}
 use Rattle.transfer.specs.Bytes.{low_byte, high_byte, word}
 use Rattle.transfer.specs.Constants.{register_count, full_length}
@@ -21,7 +21,7 @@ use Rattle.controller.specs.Refusals.{well_formed, refusal_of}
 use Rattle.controller.specs.Reu.{with_dma}
 use Rattle.transfer.proofs.Pick.{snd}
 use Rattle.controller.proofs.WellFormed.{well_range}
-use Rattle.image.specs.declared.Opened.{Opened}
+use Rattle.image.specs.Open.{Opened}
 use Rattle.image.specs.Fields.{laid, lifted}
 use Rattle.image.specs.Inner.{gets}
 use Rattle.image.specs.Layout.{fields, at, transfer, remaining, remaining_number, other_with, pack_image, transfer_of, reu_at}
@@ -66,7 +66,7 @@ own p h =
 -- ---- a controller that is packed
 
 -- its bytes, with the registers written out
-module _ (u : Reu) (m : Dma) where
+module _ (u : Reu) (m : Option DmaState) where
   abbrev written : List ℕ
   written = laid fields (gets 0 register_count u.regs ++ other_with u m)
 
@@ -74,12 +74,12 @@ module _ (u : Reu) (m : Dma) where
   unfolding pack_image
   written_is long e = λ i. laid fields (sym (gets_all u.regs register_count long) i ++ other_with u (e i))
 
-packed : (u : Reu) (d : DmaState) → Typed u → u.dma ≡ Running d → pair_in (pack_image u) ≡ pair_of d.remaining
-packed u d typed e = ap pair_in (written_is u (Running d) typed.regs_long e) ∙ bytes_of d.remaining
+packed : (u : Reu) (d : DmaState) → Typed u → u.dma ≡ Some d → pair_in (pack_image u) ≡ pair_of d.remaining
+packed u d typed e = ap pair_in (written_is u (Some d) typed.regs_long e) ∙ bytes_of d.remaining
 
 -- ---- an image that is opened
 
-module _ (image : List ℕ) (m : Dma) (o : OpensAs image m) where
+module _ (image : List ℕ) (m : Option DmaState) (o : OpensAs image m) where
   is : open_image image ≡ record { refusal = 0; reu = reu_at image }
   is = opened_is image o.accepted
 
@@ -93,12 +93,12 @@ module _ (image : List ℕ) (m : Dma) (o : OpensAs image m) where
   image_is : image ≡ written (reu_at image) m
   image_is = sym (pack_back image o.bytes o.accepted) ∙ written_is (reu_at image) m sound.regs.len runs
 
-module _ (image : List ℕ) (d : DmaState) (o : OpensAs image (Running d)) where
+module _ (image : List ℕ) (d : DmaState) (o : OpensAs image (Some d)) where
   transfer_is : transfer_of (lifted fields image) ≡ d
   unfolding reu_at
-  transfer_is = go (eqb (at (lifted fields image) transfer) 0) (runs image (Running d) o)
+  transfer_is = go (eqb (at (lifted fields image) transfer) 0) (runs image (Some d) o)
     where
-      go : (t : Bool) → cond t Idle (Running (transfer_of (lifted fields image))) ≡ Running d → transfer_of (lifted fields image) ≡ d
+      go : (t : Bool) → cond t None (Some (transfer_of (lifted fields image))) ≡ Some d → transfer_of (lifted fields image) ≡ d
       go true e = cc
       go false e = cc
 
@@ -111,7 +111,7 @@ module _ (image : List ℕ) (d : DmaState) (o : OpensAs image (Running d)) where
   pair_is = sym (own (pair_in image) (o.bytes.below _, o.bytes.below _)).1 ∙ ap pair_of (sym opened)
 
   sound_transfer : SoundTransfer (reu_at image).attached d
-  sound_transfer = subst (SoundDma (reu_at image).attached) (runs image (Running d) o) (sound image (Running d) o).dma
+  sound_transfer = subst (SoundDma (reu_at image).attached) (runs image (Some d) o) (sound image (Some d) o).dma
 
   tail : d.verify_tail ≡ true → pair_in image ≡ (1, 0)
   tail t =
@@ -121,11 +121,11 @@ module _ (image : List ℕ) (d : DmaState) (o : OpensAs image (Running d)) where
 
   any : (p : ℕ × ℕ) → d.verify_tail ≡ false → IsPair p
       → open_image (with_pair image p)
-      ≡ record { refusal = 0; reu = with_dma (open_image image).reu (Running (with_remaining d (remaining_of p))) }
+      ≡ record { refusal = 0; reu = with_dma (open_image image).reu (Some (with_remaining d (remaining_of p))) }
   any p t h =
-      ap open_image (ap (λ (l : List ℕ). with_pair l p) (image_is image (Running d) o) ∙ put ∙ sym again)
+      ap open_image (ap (λ (l : List ℕ). with_pair l p) (image_is image (Some d) o) ∙ put ∙ sym again)
       ∙ open_pack next (sound_typed next fits) (sound_well next fits)
-      ∙ (λ i. record { refusal = 0; reu = with_dma (sym (is image (Running d) o) i).reu (Running other) })
+      ∙ (λ i. record { refusal = 0; reu = with_dma (sym (is image (Some d) o) i).reu (Some other) })
     where
       n : ℕ
       n = remaining_of p
@@ -134,11 +134,11 @@ module _ (image : List ℕ) (d : DmaState) (o : OpensAs image (Running d)) where
       other = with_remaining d n
 
       next : Reu
-      next = with_dma (reu_at image) (Running other)
+      next = with_dma (reu_at image) (Some other)
 
       fits : Sound next
       fits =
-          with_dma_lem (sound image (Running d) o)
+          with_dma_lem (sound image (Some d) o)
           record {
             present = sound_transfer.present;
             c64 = sound_transfer.c64;
@@ -150,18 +150,18 @@ module _ (image : List ℕ) (d : DmaState) (o : OpensAs image (Running d)) where
             tail = ap (λ (b : Bool). not b || (is_type d.transfer_type Verify && eqb n 1)) t;
           }
 
-      again : pack_image next ≡ written (reu_at image) (Running other)
-      again = written_is next (Running other) (sound image (Running d) o).regs.len refl
+      again : pack_image next ≡ written (reu_at image) (Some other)
+      again = written_is next (Some other) (sound image (Some d) o).regs.len refl
 
-      put : with_pair (written (reu_at image) (Running d)) p ≡ written (reu_at image) (Running other)
-      put = ap (with_pair (written (reu_at image) (Running d))) (sym (bytes_of n ∙ (own p h).1))
+      put : with_pair (written (reu_at image) (Some d)) p ≡ written (reu_at image) (Some other)
+      put = ap (with_pair (written (reu_at image) (Some d))) (sym (bytes_of n ∙ (own p h).1))
 
-idle : (image : List ℕ) → OpensAs image Idle → take 11 (drop 22 image) ≡ replicate 11 0
-idle image o = ap (λ (l : List ℕ). take 11 (drop 22 l)) (image_is image Idle o)
+idle : (image : List ℕ) → OpensAs image None → take 11 (drop 22 image) ≡ replicate 11 0
+idle image o = ap (λ (l : List ℕ). take 11 (drop 22 l)) (image_is image None o)
 
 -- ---- refusals
 
-value : (u : Reu) (d : DmaState) (bus storage : ℕ) → u.dma ≡ Running d → ¬ IsRemaining d.remaining → refusal_of u bus storage ≡ 2
+value : (u : Reu) (d : DmaState) (bus storage : ℕ) → u.dma ≡ Some d → ¬ IsRemaining d.remaining → refusal_of u bus storage ≡ 2
 unfolding refusal_of
 value u d bus storage e bad = go (well_formed u) refl
   where

@@ -10,7 +10,7 @@ use lib.Dec.{eqb}
 use native.Mathlib.Omega.{arith}
 use Rattle.transfer.specs.Bytes.{bit_of}
 use Rattle.transfer.specs.declared.timing.ReuBusAction.{ReuBusAction}
-use Rattle.transfer.specs.declared.dma.Dma.TheVariants.{Idle}
+use Rattle.std.specs.Prelude.{None}
 use Rattle.controller.specs.Reu.{reg}
 use Rattle.controller.specs.Registers.{read_register, write_register}
 use Rattle.controller.specs.declared.reu.Reu.{Reu}
@@ -19,7 +19,7 @@ use Rattle.transfer.specs.Memory.{is_size}
 use Rattle.image.proofs.Sound.{Sound, with_dma_lem}
 use Rattle.controller.specs.Cycle.{run_reu_cycle}
 use Rattle.transfer.specs.Timing.{action_number}
-use Rattle.image.specs.declared.Opened.{Opened}
+use Rattle.image.specs.Open.{Opened}
 use Rattle.image.specs.Layout.{present, pack_image}
 use Rattle.image.proofs.Packed.{open_pack}
 use Rattle.reu.specs.Exports.{reu_debug_register}
@@ -393,11 +393,11 @@ some_a k st =
 
 -- ---- run B
 
-stays : (x : St) (d : Kind) → Ready x → Plain x d → (step_of d x).u.dma ≡ Idle → IsIdle (leaves (on x d))
+stays : (x : St) (d : Kind) → Ready x → Plain x d → (step_of d x).u.dma ≡ None → IsIdle (leaves (on x d))
 stays x d g o e =
     ap (λ (h : Held). byte h transfer_byte) (leaves_is x g.sound d (ready_number x g d o.steady)) ∙ present_byte (step_of d x) (ready_step x g d o.steady o.numbers).sound ∙ ap present e
 
-module _ (x : St) (ready : Ready x) (idle : x.u.dma ≡ Idle) where
+module _ (x : St) (ready : Ready x) (idle : x.u.dma ≡ None) where
   first : Plain x (read 0)
   unfolding read_register
   first = let b : reg x.u 0 < 256 = (ready.sound.regs.fits 0).byte in record { small = omega arith; numbers = omega arith; steady = tt; high = tt; kind = reads tt }
@@ -408,7 +408,7 @@ module _ (x : St) (ready : Ready x) (idle : x.u.dma ≡ Idle) where
   ready_1 : Ready b₁
   ready_1 = ready_step x ready (read 0) first.steady first.numbers
 
-  idle_1 : b₁.u.dma ≡ Idle
+  idle_1 : b₁.u.dma ≡ None
   unfolding read_register
   idle_1 = idle
 
@@ -421,14 +421,14 @@ module _ (x : St) (ready : Ready x) (idle : x.u.dma ≡ Idle) where
   ready_2 : Ready b₂
   ready_2 = ready_step b₁ ready_1 (write 2 0) second.steady second.numbers
 
-  idle_2 : b₂.u.dma ≡ Idle
+  idle_2 : b₂.u.dma ≡ None
   unfolding write_register
   idle_2 = idle_1
 
   third : Plain b₂ high_cycle
   third = plain_cycle b₂
 
-  idle_3 : (step_of high_cycle b₂).u.dma ≡ Idle
+  idle_3 : (step_of high_cycle b₂).u.dma ≡ None
   idle_3 = (idle_high b₂ 1 0 0 1 third.high idle_2).kept.dma
 
   abbrev three_calls : List Call

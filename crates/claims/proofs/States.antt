@@ -83,7 +83,7 @@ other_act trigger_ff00 x = changes 0 (core_trigger_ff00 x.u)
 other_act dma_active x = looks (bit_of (active x.u.dma))
 other_act (bus_action h p n) x =
     let g = core_bus_action x.u x.s (flag h) (flag p) n in stores (action_number g.0.action) g.0.reu g.1
-other_act (cpu_ready h) x = let r = cpu_ready_after_dma x.u (flag h) in changes (bit_of r.flag) r.reu
+other_act (cpu_ready h) x = let r = cpu_ready_after_dma x.u (flag h) in changes (bit_of r.value) r.reu
 other_act (debug_register i) x = looks (core_debug_register x.u i)
 other_act c64_access x = looks (access_number (core_c64_access x.u))
 other_act (tick_dma n l) x = ticks (core_tick_dma x.u x.m x.s n (flag l))

@@ -13,7 +13,7 @@ use native.Mathlib.Omega.{arith}
 use native.Mathlib.Decide.{ℕ_discrete}
 use borrow.Author.Tests.{ne_eqb, leb-true, leb-false}
 use Rattle.controller.specs.declared.reu.Reu.{Reu}
-use Rattle.transfer.specs.declared.dma.Dma.TheVariants.{Idle}
+use Rattle.std.specs.Prelude.{None}
 use Rattle.transfer.specs.declared.timing.ReuBusAction.{ReuBusAction}
 use Rattle.transfer.specs.declared.timing.ReuBusAction.TheVariants.{Cpu, Transfer}
 use Rattle.transfer.specs.Bytes.{word, bit_of, long}
@@ -90,7 +90,7 @@ flag_high : (h : ℕ) → h ≢ 0 → flag h ≡ true
 flag_high h ne = ap not (ne_eqb h 0 ne)
 
 -- a cycle with BA high on an idle controller
-pub idle_high : (x : St) (h n l p : ℕ) → High (cycle h n l p) → x.u.dma ≡ Idle
+pub idle_high : (x : St) (h n l p : ℕ) → High (cycle h n l p) → x.u.dma ≡ None
     → IdleStep x.u x.m x.s (run_reu_cycle x.u x.m x.s (flag h) (flag p) n (flag l))
 idle_high x h n l p hi e =
     subst₂ (λ (b q : Bool). IdleStep x.u x.m x.s (run_reu_cycle x.u x.m x.s b q n (flag l))) (sym (flag_high h hi.0)) (sym (flag_high p hi.1))
@@ -106,7 +106,7 @@ granted_bit x sound h i l p z =
 abbrev after_tick : Ticked → St
 after_tick t = record { u = t.0.reu; m = t.1; s = t.2 }
 
-kept_of : (u w : Reu) → u.dma ≡ Idle → Kept (with_dma u Idle) w → Kept u w
+kept_of : (u w : Reu) → u.dma ≡ None → Kept (with_dma u None) w → Kept u w
 kept_of u w e k =
     record { regs = k.regs; c64 = k.c64; exp = k.exp; len = k.len; attached = k.attached; dma = k.dma ∙ sym e }
 

@@ -1,11 +1,11 @@
 -- L3: remaining in two bytes of the image. Quotations are L3's words.
 use Rattle.std.specs.Prelude.{ℕ, ◌+◌, ◌≤◌, ◌<◌, true, false, ◌≡◌, ◌≢◌, List, [], ◌∷◌, map, length, set, take, drop, replicate}
 use Rattle.transfer.specs.declared.dma.DmaState.{DmaState}
-use Rattle.transfer.specs.declared.dma.Dma.{Dma}
-use Rattle.transfer.specs.declared.dma.Dma.TheVariants.{Idle, Running}
+use Rattle.std.specs.Prelude.{Option}
+use Rattle.std.specs.Prelude.{None, Some}
 use Rattle.transfer.specs.Bytes.{low_byte, high_byte, word}
 use Rattle.transfer.specs.Constants.{full_length}
-use Rattle.transfer.specs.Dma.{dma_of, length_of}
+use Rattle.transfer.specs.Dma.{length_of}
 use Rattle.controller.specs.declared.reu.Reu.{Reu}
 use Rattle.controller.specs.Refusals.{refusal_of}
 use Rattle.controller.specs.Reu.{with_dma}
@@ -32,7 +32,7 @@ IsRemaining n = (1 ≤ n) × (n ≤ full_length)
 -- ---- in an image, and in a transfer
 
 -- an image that is accepted, with this transfer or none
-pub record OpensAs (image : List ℕ) (m : Dma) : Type 0 where
+pub record OpensAs (image : List ℕ) (m : Option DmaState) : Type 0 where
   pub bytes : Bytes image
   pub accepted : (open_image image).refusal ≡ 0
   pub runs : (open_image image).reu.dma ≡ m
@@ -44,9 +44,7 @@ abbrev pub with_pair : List ℕ → (ℕ × ℕ) → List ℕ
 with_pair image p = set (set image remaining_byte p.0) (remaining_byte + 1) p.1
 
 abbrev pub with_remaining : DmaState → ℕ → DmaState
-with_remaining d n =
-    dma_of d.transfer_type d.swap_phase d.c64_addr d.reu_addr n d.fix_c64 d.fix_reu
-    d.autoload d.latch d.first_byte d.read_clock_odd d.verify_tail
+with_remaining d n = record d { remaining = n }
 
 -- ---- the claim
 
@@ -60,20 +58,20 @@ pub record RemainingBytes : Type 0 where
   pub places : map place_of (remaining ∷ latch ∷ options ∷ granted_field ∷ []) ≡ 29 ∷ 31 ∷ 32 ∷ 33 ∷ []
   pub size : image_size ≡ 37
   -- packing a controller puts its pair there, and opening an image takes the pair's remaining from there
-  pub packed : (u : Reu) (d : DmaState) → Typed u → u.dma ≡ Running d → pair_in (pack_image u) ≡ pair_of d.remaining
+  pub packed : (u : Reu) (d : DmaState) → Typed u → u.dma ≡ Some d → pair_in (pack_image u) ≡ pair_of d.remaining
   pub opened :
-      (image : List ℕ) (d : DmaState) → OpensAs image (Running d) → d.remaining ≡ remaining_of (pair_in image)
+      (image : List ℕ) (d : DmaState) → OpensAs image (Some d) → d.remaining ≡ remaining_of (pair_in image)
   -- any pair can stand there while a transfer runs, but in a verify tail: nothing else of the controller depends on it
   pub any :
-      (image : List ℕ) (d : DmaState) (p : ℕ × ℕ) → OpensAs image (Running d) → d.verify_tail ≡ false → IsPair p
+      (image : List ℕ) (d : DmaState) (p : ℕ × ℕ) → OpensAs image (Some d) → d.verify_tail ≡ false → IsPair p
       → open_image (with_pair image p)
-      ≡ record { refusal = 0; reu = with_dma (open_image image).reu (Running (with_remaining d (remaining_of p))) }
+      ≡ record { refusal = 0; reu = with_dma (open_image image).reu (Some (with_remaining d (remaining_of p))) }
   -- a tail asks for remaining 1
-  pub tail : (image : List ℕ) (d : DmaState) → OpensAs image (Running d) → d.verify_tail ≡ true → pair_in image ≡ (1, 0)
+  pub tail : (image : List ℕ) (d : DmaState) → OpensAs image (Some d) → d.verify_tail ≡ true → pair_in image ≡ (1, 0)
   -- "without a transfer 22-32 are 0"
-  pub idle : (image : List ℕ) → OpensAs image Idle → take 11 (drop 22 image) ≡ replicate 11 0
+  pub idle : (image : List ℕ) → OpensAs image None → take 11 (drop 22 image) ≡ replicate 11 0
   -- "Earlier images are refused. Refusal 1 reads 37"
   pub other : (image : List ℕ) → length image ≢ 37 → (open_image image).refusal ≡ 1
   -- a remaining of 0 or above 65,536 can be in a controller value only, and is refused by 2 there
   pub value :
-      (u : Reu) (d : DmaState) (bus storage : ℕ) → u.dma ≡ Running d → ¬ IsRemaining d.remaining → refusal_of u bus storage ≡ 2
+      (u : Reu) (d : DmaState) (bus storage : ℕ) → u.dma ≡ Some d → ¬ IsRemaining d.remaining → refusal_of u bus storage ≡ 2

@@ -1,5 +1,5 @@
 -- Register writes and reads as the processor makes them: `w` and `rd`. t is the line that was typed, i the image.
-use Rattle.std.specs.Prelude.{ℕ, ◌%◌, cond, List, [], ◌==◌}
+use Rattle.std.specs.Prelude.{ℕ, ◌%◌, cond, List, [], eqb, Option, Some, None}
 use Rattle.reu.specs.Exports.{reu_read, reu_storage_present, reu_write}
 use Rattle.pane.specs.Answers.{accepted, refused_by}
 use Rattle.text.specs.Shown.{◌⊕◌, ascii, hex_of, fill_of}
@@ -21,8 +21,8 @@ abbrev pub after_read : List ℕ → List ℕ → List ℕ
 after_read t i = (reu_read i (address t % 65536)).1
 
 -- what a write does not show: no storage was ever attached, or the image is refused
-unfoldable pub warning_of : List ℕ → List ℕ
+unfoldable pub warning_of : List ℕ → Option (List ℕ)
 warning_of i =
-    cond (reu_storage_present i == 0) ([] ⊕ ascii "(no storage is attached, so no command runs: enable first)")
-    (cond (accepted (reu_storage_present i)) []
-    ([] ⊕ ascii "(nothing is written: the image is " ⊕ refused_by (reu_storage_present i) ⊕ ascii ")"))
+    cond (eqb (reu_storage_present i) 0) (Some ([] ⊕ ascii "(no storage is attached, so no command runs: enable first)"))
+    (cond (accepted (reu_storage_present i)) None
+    (Some ([] ⊕ ascii "(nothing is written: the image is " ⊕ refused_by (reu_storage_present i) ⊕ ascii ")")))

@@ -1,63 +1,74 @@
 // What a command does to the machine and to the time, and what it says. Commands that only show, and those on files, are not here.
 ghost use Rattle.std.specs.Prelude.{◌≡◌, []};
 ghost use Rattle.transfer.specs.Memory.{zeros};
-ghost use Rattle.text.specs.Shown.{text_of};
+ghost use Rattle.text.specs.Shown.{◌⊕◌};
 ghost use Rattle.text.specs.Typed.{word_of};
 ghost use Rattle.reu.specs.Exports.{reu_new, reu_reset, reu_set_enabled, reu_trigger_ff00};
 ghost use Rattle.console.specs.Apply.{apply_of, bus_hint, control_of, count_or, cycle_time, cycle_text, go_outcome, size_text, sized, step_outcome};
+ghost use Rattle.console.specs.Said.{said_of};
 ghost use Rattle.lines.specs.Clock.{time_of};
+ghost use Rattle.lines.specs.Keys.{command_of};
 ghost use Rattle.lines.specs.Memory.{stored};
 ghost use Rattle.console.specs.Registers.{after_read, read_text, warning_of, written};
 
 use crate::registers;
 use crate::step::{after, cycle_line, go, run_cycle, run_line};
 use lines::clock::Clock;
-use lines::commands::{place, size_typed};
-use lines::keys;
+use lines::commands::{command, size_typed};
+use lines::keys::Command;
 use lines::memory::{address_of, store};
-use pane::answers::{REFUSAL_UNIT, is_accepted, refusal};
+use pane::answers::answer;
 use text::faults::value;
 use text::line::Line;
+use text::words::{word, word_count};
 
 // A size that is set where storage is attached is refused by this number.
-const ATTACHED: u32 = 6;
+const ATTACHED: u8 = 6;
 
 // A swap of 65,536 bytes takes 131,072 cycles, and BA may hold it as long again.
 const LIMIT: u32 = 0x40000;
 
-#[derive(Clone, Copy)]
+#[derive(Drop)]
 pub struct Applied {
     pub clock: Clock,
-    // A line to show; no bytes where there is nothing to say.
-    pub said: Line,
+    // A line to show, where there is something to say.
+    pub said: Option<Line>,
 }
 
 // A command's number, or another where it has none.
-pub fn count_or(line: Line, other: u32) -> u32
-    ensures { result ≡ count_or (text_of line) other }
+pub fn count_or(line: &[u8], other: u32) -> u32
+    ensures { result ≡ count_or line.now other }
 {
-    if line.words() == 2 {
-        return value(line.word(1));
+    if word_count(line) == 2 {
+        return value(word(line, 1));
     }
     other
+}
+
+// Nothing is said, and no time passes.
+fn quiet(clock: Clock) -> Applied
+    ensures clock_value { result.clock ≡ clock }
+    ensures said_value { said_of result.said ≡ None }
+{
+    Applied { clock, said: None }
 }
 
 // ---- bytes: > and >s
 
 // Authors who mean a register may write to the bus below it.
-fn bus_hint(line: Line) -> Line
-    ensures { text_of result ≡ bus_hint (text_of line) }
+fn bus_hint(line: &[u8]) -> Option<Line>
+    ensures { said_of result ≡ bus_hint line.now }
 {
     if address_of(line) / 256 == 0xDF {
-        return Line::new().text(b"(bytes of the bus; the registers are written by w)");
+        return Some(Line::new().text(b"(bytes of the bus; the registers are written by w)"));
     }
-    Line::new()
+    None
 }
 
-fn poke(line: Line, clock: Clock, bus: &mut [u8]) -> Applied
+fn poke(line: &[u8], clock: Clock, bus: &mut [u8]) -> Applied
     ensures clock_value { result.clock ≡ clock }
-    ensures said_value { text_of result.said ≡ bus_hint (text_of line) }
-    ensures bus_after { bus.new ≡ stored (text_of line) bus.old }
+    ensures said_value { said_of result.said ≡ bus_hint line.now }
+    ensures bus_after { bus.new ≡ stored line.now bus.old }
 {
     store(line, bus);
     Applied {
@@ -66,108 +77,98 @@ fn poke(line: Line, clock: Clock, bus: &mut [u8]) -> Applied
     }
 }
 
-fn poke_storage(line: Line, clock: Clock, storage: &mut [u8]) -> Applied
+fn poke_storage(line: &[u8], clock: Clock, storage: &mut [u8]) -> Applied
     ensures clock_value { result.clock ≡ clock }
-    ensures said_value { text_of result.said ≡ [] }
-    ensures storage_after { storage.new ≡ stored (text_of line) storage.old }
+    ensures said_value { said_of result.said ≡ None }
+    ensures storage_after { storage.new ≡ stored line.now storage.old }
 {
     store(line, storage);
-    Applied {
-        clock,
-        said: Line::new(),
-    }
+    quiet(clock)
 }
 
 // ---- the controller: w, rd, ff00, enable, disable, reset, size, new
 
-fn write(line: Line, clock: Clock, image: &mut [u8]) -> Applied
+fn write(line: &[u8], clock: Clock, image: &mut [u8]) -> Applied
     ensures clock_value { result.clock ≡ clock }
-    ensures said_value { text_of result.said ≡ warning_of image.old }
-    ensures image_after { image.new ≡ written (text_of line) image.old }
+    ensures said_value { said_of result.said ≡ warning_of image.old }
+    ensures image_after { image.new ≡ written line.now image.old }
 {
     let said = registers::warning(image);
     registers::write(line, image);
     Applied { clock, said }
 }
 
-fn read(line: Line, clock: Clock, image: &mut [u8]) -> Applied
+fn read(line: &[u8], clock: Clock, image: &mut [u8]) -> Applied
     ensures clock_value { result.clock ≡ clock }
-    ensures said_value { text_of result.said ≡ read_text (text_of line) image.old }
-    ensures image_after { image.new ≡ after_read (text_of line) image.old }
+    ensures said_value { said_of result.said ≡ Some (read_text line.now image.old) }
+    ensures image_after { image.new ≡ after_read line.now image.old }
 {
+    let said = registers::read(line, image);
     Applied {
         clock,
-        said: registers::read(line, image),
+        said: Some(said),
     }
 }
 
 fn trigger(clock: Clock, image: &mut [u8]) -> Applied
     ensures clock_value { result.clock ≡ clock }
-    ensures said_value { text_of result.said ≡ [] }
+    ensures said_value { said_of result.said ≡ None }
     ensures image_after { image.new ≡ (reu_trigger_ff00 image.old).1 }
 {
     reu::reu_trigger_ff00(image);
-    Applied {
-        clock,
-        said: Line::new(),
-    }
+    quiet(clock)
 }
 
 fn switch(clock: Clock, image: &mut [u8], storage: &mut [u8], enabled: u32) -> Applied
     ensures clock_value { result.clock ≡ clock }
-    ensures said_value { text_of result.said ≡ [] }
+    ensures said_value { said_of result.said ≡ None }
     ensures image_after { image.new ≡ (reu_set_enabled image.old storage.old enabled).1 }
     ensures storage_after { storage.new ≡ (reu_set_enabled image.old storage.old enabled).2 }
 {
     reu::reu_set_enabled(image, storage, enabled);
-    Applied {
-        clock,
-        said: Line::new(),
-    }
+    quiet(clock)
 }
 
 fn reset(clock: Clock, image: &mut [u8]) -> Applied
     ensures clock_value { result.clock ≡ clock }
-    ensures said_value { text_of result.said ≡ [] }
+    ensures said_value { said_of result.said ≡ None }
     ensures image_after { image.new ≡ (reu_reset image.old 0).1 }
 {
     reu::reu_reset(image, 0);
-    Applied {
-        clock,
-        said: Line::new(),
-    }
+    quiet(clock)
 }
 
 // What to say of a size, by what the call answered. Authors may not expect that a new machine is needed.
 #[tactic(auto, unfolding(crate::specs::Apply::size_text))]
-fn size_text(answer: u32) -> Line
-    ensures { text_of result ≡ size_text answer }
+fn size_text(code: u32) -> Option<Line>
+    ensures { said_of result ≡ size_text code }
 {
-    if is_accepted(answer) {
-        return Line::new();
+    let Err(refused) = answer(code) else {
+        return None;
+    };
+    let line = refused.shown(Line::new().text(b"the size is "));
+    if refused.number == ATTACHED {
+        return Some(line.text(b": storage is attached (new makes a machine without)"));
     }
-    let line = refusal(Line::new().text(b"the size is "), answer);
-    if answer == ATTACHED * REFUSAL_UNIT {
-        return line.text(b": storage is attached (new makes a machine without)");
-    }
-    line
+    Some(line)
 }
 
-fn set_size(line: Line, clock: Clock, image: &mut [u8]) -> Applied
+fn set_size(line: &[u8], clock: Clock, image: &mut [u8]) -> Applied
     ensures clock_value { result.clock ≡ clock }
-    ensures said_value { text_of result.said ≡ size_text (sized (text_of line) image.old).0 }
-    ensures image_after { image.new ≡ (sized (text_of line) image.old).1 }
+    ensures said_value { said_of result.said ≡ size_text (sized line.now image.old).0 }
+    ensures image_after { image.new ≡ (sized line.now image.old).1 }
 {
-    let answer = reu::reu_set_size(image, size_typed(line.word(1)));
+    let size = size_typed(word(line, 1)).unwrap_or(0);
+    let code = reu::reu_set_size(image, size);
     Applied {
         clock,
-        said: size_text(answer),
+        said: size_text(code),
     }
 }
 
 fn renew(image: &mut [u8], bus: &mut [u8], storage: &mut [u8]) -> Applied
     ensures clock_value { time_of result.clock ≡ (0, [], 0) }
-    ensures said_value { text_of result.said ≡ [] }
+    ensures said_value { said_of result.said ≡ None }
     ensures image_after { image.new ≡ (reu_new image.old).1 }
     ensures bus_after { bus.new ≡ zeros bus.old }
     ensures storage_after { storage.new ≡ zeros storage.old }
@@ -175,130 +176,114 @@ fn renew(image: &mut [u8], bus: &mut [u8], storage: &mut [u8]) -> Applied
     reu::reu_new(image);
     transfer::clear(bus);
     transfer::clear(storage);
-    Applied {
-        clock: Clock::new(),
-        said: Line::new(),
-    }
+    quiet(Clock::new())
 }
 
 // ---- time: ba, cycle, a cycle, g
 
-fn set_ba(line: Line, clock: Clock) -> Applied
-    ensures clock_value { time_of result.clock ≡ (clock.cycle, word_of 1 (text_of line), 0) }
-    ensures said_value { text_of result.said ≡ [] }
+fn set_ba(line: &[u8], clock: Clock) -> Applied
+    ensures clock_value { time_of result.clock ≡ (clock.cycle, [] ⊕ word_of 1 line.now, 0) }
+    ensures said_value { said_of result.said ≡ None }
 {
-    let later = Clock {
+    quiet(Clock {
         cycle: clock.cycle,
-        ba: line.word(1),
+        ba: Line::new().text(word(line, 1)),
         at: 0,
-    };
-    Applied {
-        clock: later,
-        said: Line::new(),
-    }
+    })
 }
 
-fn set_cycle(line: Line, clock: Clock) -> Applied
-    ensures clock_value { time_of result.clock ≡ cycle_time (text_of line) clock }
-    ensures said_value { text_of result.said ≡ cycle_text (text_of line) clock }
+fn set_cycle(line: &[u8], clock: Clock) -> Applied
+    ensures clock_value { time_of result.clock ≡ cycle_time line.now clock }
+    ensures said_value { said_of result.said ≡ cycle_text line.now clock }
 {
-    if line.words() == 2 {
-        let ba = clock.ba;
-        let later = Clock {
-            cycle: value(line.word(1)) as u64,
-            ba,
-            at: clock.at,
-        };
-        return Applied {
-            clock: later,
-            said: Line::new(),
-        };
+    if word_count(line) == 2 {
+        return quiet(Clock {
+            cycle: u64::from(value(word(line, 1))),
+            ..clock
+        });
     }
     let said = Line::new().text(b"the next cycle is ").decimal(clock.cycle);
-    Applied { clock, said }
+    Applied {
+        clock,
+        said: Some(said),
+    }
 }
 
 // One bus cycle: what it was granted, and the bytes after it.
 #[tactic(auto, unfolding(crate::specs::Apply::step_outcome))]
 pub fn step(clock: Clock, image: &mut [u8], bus: &mut [u8], storage: &mut [u8]) -> Applied
-    ensures { (time_of result.clock, text_of result.said, image.new, bus.new, storage.new) ≡ step_outcome clock image.old bus.old storage.old }
+    ensures { (time_of result.clock, said_of result.said, image.new, bus.new, storage.new) ≡ step_outcome clock image.old bus.old storage.old }
 {
     let done = run_cycle(clock.inputs(), clock.cycle, image, bus, storage);
-    let said = cycle_line(clock, done, bus, storage);
+    let said = cycle_line(&clock, done, bus, storage);
     Applied {
-        clock: after(clock, done.grant),
-        said,
+        clock: after(clock, done),
+        said: Some(said),
     }
 }
 
 #[tactic(auto, unfolding(crate::specs::Apply::go_outcome))]
 fn run_command(
-    line: Line,
+    line: &[u8],
     clock: Clock,
     image: &mut [u8],
     bus: &mut [u8],
     storage: &mut [u8],
 ) -> Applied
-    ensures { (time_of result.clock, text_of result.said, image.new, bus.new, storage.new) ≡ go_outcome (text_of line) clock image.old bus.old storage.old }
+    ensures { (time_of result.clock, said_of result.said, image.new, bus.new, storage.new) ≡ go_outcome line.now clock image.old bus.old storage.old }
 {
     if reu::reu_dma_active(image) == 0 {
         let said = Line::new().text(b"no command runs (an armed one waits for ff00)");
-        return Applied { clock, said };
+        return Applied {
+            clock,
+            said: Some(said),
+        };
     }
     let run = go(clock, count_or(line, LIMIT), image, bus, storage);
-    let said = run_line(run, image);
-    let later = run.clock;
-    Applied { clock: later, said }
+    let said = run_line(&run, image);
+    Applied {
+        clock: run.clock,
+        said: Some(said),
+    }
 }
 
 // ---- any of them
 
-fn quiet(clock: Clock) -> Applied
-    ensures clock_value { result.clock ≡ clock }
-    ensures said_value { text_of result.said ≡ [] }
-{
-    Applied {
-        clock,
-        said: Line::new(),
-    }
-}
-
 // A command about the controller or the time alone: nothing, where it is none of these.
-fn control(line: Line, clock: Clock, image: &mut [u8]) -> Applied
-    ensures { (time_of result.clock, text_of result.said, image.new) ≡ control_of (word_of 0 (text_of line)) (text_of line) clock image.old }
+#[tactic(auto, unfolding(crate::specs::Apply::control_of))]
+fn control(line: &[u8], clock: Clock, image: &mut [u8]) -> Applied
+    ensures { (time_of result.clock, said_of result.said, image.new) ≡ control_of (command_of (word_of 0 line.now)) line.now clock image.old }
 {
-    let place = place(line);
-    match place {
-        keys::W => write(line, clock, image),
-        keys::RD => read(line, clock, image),
-        keys::FF00 => trigger(clock, image),
-        keys::FF00_UPPER => trigger(clock, image),
-        keys::RESET => reset(clock, image),
-        keys::BA => set_ba(line, clock),
-        keys::CYCLE => set_cycle(line, clock),
-        keys::SIZE => set_size(line, clock, image),
+    match command(line) {
+        Some(Command::W) => write(line, clock, image),
+        Some(Command::Rd) => read(line, clock, image),
+        Some(Command::Ff00 | Command::Ff00Upper) => trigger(clock, image),
+        Some(Command::Reset) => reset(clock, image),
+        Some(Command::Ba) => set_ba(line, clock),
+        Some(Command::Cycle) => set_cycle(line, clock),
+        Some(Command::Size) => set_size(line, clock, image),
         _ => quiet(clock),
     }
 }
 
 // The command that a line is.
+#[tactic(auto, unfolding(crate::specs::Apply::apply_of))]
 pub fn apply(
-    line: Line,
+    line: &[u8],
     clock: Clock,
     image: &mut [u8],
     bus: &mut [u8],
     storage: &mut [u8],
 ) -> Applied
-    ensures { (time_of result.clock, text_of result.said, image.new, bus.new, storage.new) ≡ apply_of (word_of 0 (text_of line)) (text_of line) clock image.old bus.old storage.old }
+    ensures { (time_of result.clock, said_of result.said, image.new, bus.new, storage.new) ≡ apply_of (command_of (word_of 0 line.now)) line.now clock image.old bus.old storage.old }
 {
-    let place = place(line);
-    match place {
-        keys::POKE => poke(line, clock, bus),
-        keys::POKES => poke_storage(line, clock, storage),
-        keys::ENABLE => switch(clock, image, storage, 1),
-        keys::DISABLE => switch(clock, image, storage, 0),
-        keys::NEW => renew(image, bus, storage),
-        keys::G => run_command(line, clock, image, bus, storage),
+    match command(line) {
+        Some(Command::Poke) => poke(line, clock, bus),
+        Some(Command::PokeStorage) => poke_storage(line, clock, storage),
+        Some(Command::Enable) => switch(clock, image, storage, 1),
+        Some(Command::Disable) => switch(clock, image, storage, 0),
+        Some(Command::New) => renew(image, bus, storage),
+        Some(Command::G) => run_command(line, clock, image, bus, storage),
         _ => control(line, clock, image),
     }
 }

@@ -2,50 +2,53 @@
 ghost use Rattle.std.specs.Prelude.{◌≡◌};
 ghost use Rattle.text.specs.Shown.{text_of};
 ghost use Rattle.console.specs.Registers.{after_read, read_text, warning_of, written};
+ghost use Rattle.console.specs.Said.{said_of};
 
 use lines::memory::{address_of, byte_of};
-use pane::answers::{is_accepted, refusal};
-use text::line::{Line, fill};
+use pane::answers::answer;
+use text::line::Line;
+use text::words::{word, word_count};
 
-// One byte after another to one register after another.
-pub fn write(line: Line, image: &mut [u8])
-    ensures { image.new ≡ written (text_of line) image.old }
+// One byte after another to one register after another. The same loop as that which puts bytes into a memory: what is done with a byte is no
+// closure that it takes, since its calls would need a `requires`, which no public function has.
+pub fn write(line: &[u8], image: &mut [u8])
+    ensures { image.new ≡ written line.now image.old }
 {
-    let from = address_of(line);
-    let words = line.words();
-    let mut i = 2;
-    while i < words {
-        let at = from + ((i - 2) as u32);
+    let from = address_of(line) as usize;
+    for i in 2..word_count(line) {
+        let at = from + (i - 2);
         reu::reu_write(image, (at % 65536) as u16, byte_of(line, i));
-        i += 1;
     }
 }
 
 // What a read gives, as a line, or that it was refused.
 #[tactic(auto, unfolding(crate::specs::Registers::read_text))]
-pub fn read(line: Line, image: &mut [u8]) -> Line
-    ensures result_value { text_of result ≡ read_text (text_of line) image.old }
-    ensures image_after { image.new ≡ after_read (text_of line) image.old }
+pub fn read(line: &[u8], image: &mut [u8]) -> Line
+    ensures result_value { text_of result ≡ read_text line.now image.old }
+    ensures image_after { image.new ≡ after_read line.now image.old }
 {
-    let answer = reu::reu_read(image, (address_of(line) % 65536) as u16);
-    if is_accepted(answer) {
-        return fill(b"% reads ", line.word(1)).hex2((answer % 256) as u8);
+    let register = (address_of(line) % 65536) as u16;
+    match answer(reu::reu_read(image, register)) {
+        Ok(value) => Line::new()
+            .fill(b"% reads ", word(line, 1))
+            .hex(2, value % 256),
+        Err(refused) => refused.shown(Line::new().fill(b"% is not read: ", word(line, 1))),
     }
-    refusal(fill(b"% is not read: ", line.word(1)), answer)
 }
 
 // Without storage no command can run, which a newcomer may not expect; and a refused image takes no write.
 #[tactic(auto, unfolding(crate::specs::Registers::warning_of))]
-pub fn warning(image: &[u8]) -> Line
-    ensures { text_of result ≡ warning_of image.now }
+pub fn warning(image: &[u8]) -> Option<Line>
+    ensures { said_of result ≡ warning_of image.now }
 {
     let line = Line::new();
-    let present = reu::reu_storage_present(image);
-    if present == 0 {
-        return line.text(b"(no storage is attached, so no command runs: enable first)");
+    match answer(reu::reu_storage_present(image)) {
+        Ok(0) => Some(line.text(b"(no storage is attached, so no command runs: enable first)")),
+        Ok(_) => None,
+        Err(refused) => Some(
+            refused
+                .shown(line.text(b"(nothing is written: the image is "))
+                .put(b')'),
+        ),
     }
-    if is_accepted(present) {
-        return line;
-    }
-    refusal(line.text(b"(nothing is written: the image is "), present).put(b')')
 }

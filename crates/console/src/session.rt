@@ -1,18 +1,19 @@
 // A session: what is remembered from one turn to the next, and what a turn does. While cycles are still to be stepped a turn is
 // one cycle; otherwise it is one line. What only shows, and what has to do with files, is left to whoever has the terminal.
 ghost use Rattle.std.specs.Prelude.{◌≡◌, ◌-◌, false, []};
-ghost use Rattle.text.specs.Shown.{text_of};
+ghost use Rattle.text.specs.Faults.{Says};
 ghost use Rattle.lines.specs.Clock.{time_of};
-ghost use Rattle.console.specs.Session.{cycle_turn, ended_after, ended_session, held_of, is_dropped, obey_turn, steps_of, turn_of};
+ghost use Rattle.console.specs.Said.{obeyed_of, said_of};
+ghost use Rattle.console.specs.Session.{cycle_turn, ended_after, ended_session, fault_in, held_of, obey_turn, steps_of, turn_of};
 
 use crate::apply::{apply, count_or, step};
 use lines::clock::Clock;
-use lines::commands::{is_comment, line_fault, place};
-use lines::keys;
+use lines::commands::{command, is_comment, line_fault};
+use lines::keys::Command;
 use pane::rows::size_in;
 use text::line::Line;
 
-#[derive(Clone, Copy)]
+#[derive(Drop)]
 pub struct Session {
     pub clock: Clock,
     // How many cycles are still to be stepped before the next line is read.
@@ -20,13 +21,13 @@ pub struct Session {
     pub ended: bool,
 }
 
-#[derive(Clone, Copy)]
-pub struct Turned {
+#[derive(Drop)]
+pub struct Turned<'a> {
     pub session: Session,
-    // A line to show; no bytes where there is nothing to say.
-    pub said: Line,
-    // The line that was obeyed; no bytes where none was.
-    pub line: Line,
+    // A line to show, where there is something to say.
+    pub said: Option<Line>,
+    // The line that was obeyed, where one was.
+    pub obeyed: Option<&'a [u8]>,
 }
 
 impl Session {
@@ -57,112 +58,101 @@ impl Session {
 fn one_fewer(count: u32) -> u32
     ensures { result ≡ count - 1 }
 {
-    if count == 0 { 0 } else { count - 1 }
+    count.saturating_sub(1)
 }
 
-fn cycle(session: Session, image: &mut [u8], bus: &mut [u8], storage: &mut [u8]) -> Turned
-    ensures { (held_of result.session image.new bus.new storage.new, text_of result.said, text_of result.line) ≡ cycle_turn session image.old bus.old storage.old }
+fn cycle<'a>(session: Session, image: &mut [u8], bus: &mut [u8], storage: &mut [u8]) -> Turned<'a>
+    ensures { (held_of result.session image.new bus.new storage.new, said_of result.said, obeyed_of result.obeyed) ≡ cycle_turn session image.old bus.old storage.old }
 {
     let done = step(session.clock, image, bus, storage);
-    let clock = done.clock;
-    let said = done.said;
-    let later = Session {
-        clock,
-        left: one_fewer(session.left),
-        ended: session.ended,
-    };
     Turned {
-        session: later,
-        said,
-        line: Line::new(),
+        session: Session {
+            clock: done.clock,
+            left: one_fewer(session.left),
+            ended: session.ended,
+        },
+        said: done.said,
+        obeyed: None,
     }
 }
 
 // ---- a turn is a line
 
-// A line that cannot be obeyed is forgotten, and so is a comment.
-fn is_dropped(line: Line, fault: Line) -> bool
-    ensures { result ≡ is_dropped (text_of line) (text_of fault) }
-{
-    if fault.is_empty() {
-        return is_comment(line);
-    }
-    true
-}
-
 // The cycles that a line asks for.
-fn steps_of(line: Line) -> u32
-    ensures { result ≡ steps_of (text_of line) }
+fn steps_of(line: &[u8]) -> u32
+    ensures { result ≡ steps_of line.now }
 {
-    if place(line) == keys::Z {
-        return count_or(line, 1);
+    match command(line) {
+        Some(Command::Z) => count_or(line, 1),
+        _ => 0,
     }
-    0
 }
 
-fn ended_after(line: Line, ended: bool) -> bool
-    ensures { result ≡ ended_after (text_of line) ended }
+fn ended_after(line: &[u8], ended: bool) -> bool
+    ensures { result ≡ ended_after line.now ended }
 {
-    if place(line) == keys::Q {
-        return true;
+    match command(line) {
+        Some(Command::Q) => true,
+        _ => ended,
     }
-    ended
 }
 
-fn obey(
-    line: Line,
+fn obey<'a>(
+    line: &'a [u8],
     session: Session,
     image: &mut [u8],
     bus: &mut [u8],
     storage: &mut [u8],
-) -> Turned
-    ensures { (held_of result.session image.new bus.new storage.new, text_of result.said, text_of result.line) ≡ obey_turn (text_of line) session image.old bus.old storage.old }
+) -> Turned<'a>
+    ensures { (held_of result.session image.new bus.new storage.new, said_of result.said, obeyed_of result.obeyed) ≡ obey_turn line.now session image.old bus.old storage.old }
 {
     let done = apply(line, session.clock, image, bus, storage);
-    let clock = done.clock;
-    let said = done.said;
-    let later = Session {
-        clock,
-        left: steps_of(line),
-        ended: ended_after(line, session.ended),
-    };
     Turned {
-        session: later,
-        said,
-        line,
-    }
-}
-
-fn dropped(session: Session, said: Line) -> Turned
-    ensures session_value { result.session ≡ session }
-    ensures said_value { text_of result.said ≡ text_of said }
-    ensures line_value { text_of result.line ≡ [] }
-{
-    Turned {
-        session,
-        said,
-        line: Line::new(),
+        session: Session {
+            clock: done.clock,
+            left: steps_of(line),
+            ended: ended_after(line, session.ended),
+        },
+        said: done.said,
+        obeyed: Some(line),
     }
 }
 
 // ---- a turn
 
-// `line` is the next line, which is not looked at while cycles are still to be stepped.
-pub fn turn(
+// What is wrong with a line. The last offset of the storage goes by the size that the image sets.
+fn fault_in(image: &[u8], line: &[u8]) -> Result<(), Line>
+    ensures { Says result (fault_in image.now line.now) }
+{
+    line_fault(line, size_in(image) - 1)
+}
+
+// `line` is the next line, which is not looked at while cycles are still to be stepped. One that cannot be obeyed is forgotten, and so is a
+// comment.
+#[tactic(auto, unfolding(crate::specs::Session::turn_of))]
+pub fn turn<'a>(
     session: Session,
-    line: Line,
+    line: &'a [u8],
     image: &mut [u8],
     bus: &mut [u8],
     storage: &mut [u8],
-) -> Turned
-    ensures { (held_of result.session image.new bus.new storage.new, text_of result.said, text_of result.line) ≡ turn_of (text_of line) session image.old bus.old storage.old }
+) -> Turned<'a>
+    ensures { (held_of result.session image.new bus.new storage.new, said_of result.said, obeyed_of result.obeyed) ≡ turn_of line.now session image.old bus.old storage.old }
 {
     if session.left > 0 {
         return cycle(session, image, bus, storage);
     }
-    let fault = line_fault(line, size_in(image) - 1);
-    if is_dropped(line, fault) {
-        return dropped(session, fault);
+    match fault_in(image, line) {
+        Ok(()) if is_comment(line) => Turned {
+            session,
+            said: None,
+            obeyed: None,
+        },
+        Ok(()) => obey(line, session, image, bus, storage),
+        Err(fault) => Turned {
+            session,
+            said: Some(fault),
+            obeyed: None,
+        },
     }
-    obey(line, session, image, bus, storage)
 }

@@ -1,106 +1,131 @@
 // Bus cycles: one by one, or until the command ends.
-ghost use Rattle.std.specs.Prelude.{◌≡◌, ℕ, if◌then◌else◌, List, nat_eq};
+ghost use Rattle.std.specs.Prelude.{◌≡◌, ℕ, if◌then◌else◌, List, Result, eqb};
+ghost use Rattle.transfer.specs.Bytes.{bit_of};
 ghost use Rattle.transfer.specs.Constants.{bus_size};
 ghost use Rattle.text.specs.Shown.{◌⊕◌, text_of};
 ghost use Rattle.lines.specs.Clock.{time_of};
+ghost use Rattle.pane.specs.declared.answers.Refused.{Refused};
 ghost use Rattle.console.specs.declared.step.Cycle.{Cycle};
-ghost use Rattle.console.specs.Step.{access_text, advanced, asked_of, ba_text, bytes_there, counted, cycle_line, cycle_of, either_of, go_of, grant_text, mark_if, marks_of, passed_text, refused_cycle, run_line, run_text, started, time_after};
+ghost use Rattle.console.specs.Step.{access_in, access_ready, access_text, action_in, advanced, asked_of, ba_text, bytes_at, bytes_by, counted, cycle_line, cycle_of, done_text, either_of, go_of, grant_text, mark_if, marks_of, not_asked, passed_text, run_line, run_text, started, time_after};
 
-use lines::clock::Clock;
-use pane::answers::{REFUSAL_UNIT, is_accepted, refusal};
+use lines::clock::{Clock, Inputs};
+use pane::answers::{Refused, answer};
 use pane::rows::{copied, size_in, transfer_expansion};
 use text::bytes::byte;
 use text::line::Line;
-use transfer::Passed;
-
-const TRANSFER: u32 = 2;
+use transfer::{C64Address, Passed, ReuBusAction, ReuC64Access};
 
 const BUS_SIZE: usize = 65536;
 
-const NO_MARKS: Passed = Passed {
-    c64: false,
-    expansion: false,
-};
+// What stands for a grant that nobody asked for.
+const NOT_ASKED: Refused = Refused { number: 0 };
 
-// What a cycle was granted, or that it was refused, the access to the bus that the controller had ready, the offset in the
-// storage, and which address ran over its top.
-#[derive(Clone, Copy)]
+// What a cycle was granted, the access to the bus that the controller had ready, the offset in the storage, and which address ran over
+// its top.
+#[derive(Clone, Copy, PartialEq, Eq, Debug)]
 pub struct Cycle {
-    pub grant: u32,
-    pub access: u32,
+    pub grant: ReuBusAction,
+    pub access: ReuC64Access,
     pub offset: u32,
     pub passed: Passed,
 }
 
+// ---- numbers of the calls
+
+// An input.
+fn flag(input: bool) -> u32
+    ensures { result ≡ bit_of input }
+{
+    u32::from(input)
+}
+
+fn action_in(value: u32) -> ReuBusAction
+    ensures { result ≡ action_in value }
+{
+    match value {
+        0 => ReuBusAction::Cpu,
+        1 => ReuBusAction::Hold,
+        _ => ReuBusAction::Transfer,
+    }
+}
+
+// 65,536 times the kind, and the address.
+#[tactic(auto, unfolding(crate::specs::Step::access_in))]
+fn access_in(value: u32) -> ReuC64Access
+    ensures { result ≡ access_in value }
+{
+    let address = C64Address((value % 65536) as u16);
+    match value / 65536 {
+        0 => ReuC64Access::None,
+        1 => ReuC64Access::Read(address),
+        _ => ReuC64Access::Write(address),
+    }
+}
+
 // The two marks in a cycle's answer: its value has 2 and 4 more for them.
-fn marks(answer: u32) -> Passed
-    ensures { result ≡ marks_of answer }
+fn marks(value: u32) -> Passed
+    ensures { result ≡ marks_of value }
 {
     Passed {
-        c64: answer & 2 != 0,
-        expansion: answer & 4 != 0,
+        c64: value & 2 != 0,
+        expansion: value & 4 != 0,
     }
+}
+
+// The access that is then ready. Where it is refused there is none.
+fn access_ready(image: &[u8]) -> ReuC64Access
+    ensures { result ≡ access_ready image.now }
+{
+    access_in(answer(reu::reu_c64_access(image)).unwrap_or(0))
 }
 
 // The grant of the cycle that comes next, asked of a copy of the image; what passes a top only the cycle itself answers. What the
 // asking may write, the byte of a swap that is given up, the cycle writes again itself; a cycle that is `lent` a bus of another
 // length is refused and writes nothing, so nothing is asked.
-fn ask(inputs: u8, number: u64, image: &[u8], lent: usize, storage: &mut [u8]) -> Cycle
-    ensures { ◌≡◌ {A = Cycle × List ℕ} (result, storage.new) (if nat_eq lent bus_size then asked_of inputs number image.now storage.old else (refused_cycle 0, storage.old)) }
+fn ask(
+    inputs: Inputs,
+    number: u64,
+    image: &[u8],
+    lent: usize,
+    storage: &mut [u8],
+) -> Result<Cycle, Refused>
+    ensures { ◌≡◌ {A = Result Cycle Refused × List ℕ} (result, storage.new) (if eqb lent bus_size then asked_of inputs number image.now storage.old else (not_asked, storage.old)) }
 {
     if lent != BUS_SIZE {
-        return refused(0);
+        return Err(NOT_ASKED);
     }
     let mut copy = copied(image);
-    let high = (inputs / 4 % 2) as u32;
-    let phi1 = (inputs / 2 % 2) as u32;
-    let grant = reu::reu_bus_action(&mut copy, storage, high, phi1, number);
-    let access = reu::reu_c64_access(&copy) % REFUSAL_UNIT;
-    let offset = transfer_expansion(&copy) % size_in(&copy);
-    Cycle {
-        grant,
-        access,
-        offset,
-        passed: NO_MARKS,
-    }
+    let high = flag(inputs.ba_high);
+    let phi1 = flag(inputs.ba_high_phi1);
+    let grant = answer(reu::reu_bus_action(&mut copy, storage, high, phi1, number))?;
+    Ok(Cycle {
+        grant: action_in(grant),
+        access: access_ready(&copy),
+        offset: transfer_expansion(&copy) % size_in(&copy),
+        passed: Passed::NEITHER,
+    })
 }
 
-// One that was refused made no access.
-fn refused(answer: u32) -> Cycle
-    ensures { result ≡ refused_cycle answer }
-{
-    Cycle {
-        grant: answer,
-        access: 0,
-        offset: 0,
-        passed: NO_MARKS,
-    }
-}
-
-// One bus cycle, with BA's three inputs as bits.
+// One bus cycle.
 pub fn run_cycle(
-    inputs: u8,
+    inputs: Inputs,
     number: u64,
     image: &mut [u8],
     bus: &mut [u8],
     storage: &mut [u8],
-) -> Cycle
+) -> Result<Cycle, Refused>
     ensures { (result, image.new, bus.new, storage.new) ≡ cycle_of inputs number image.old bus.old storage.old }
 {
     let asked = ask(inputs, number, image, bus.len(), storage);
-    let high = (inputs / 4 % 2) as u32;
-    let phi1 = (inputs / 2 % 2) as u32;
-    let low = (inputs % 2) as u32;
-    let answer = reu::reu_run_reu_cycle(image, bus, storage, high, number, low, phi1);
-    if is_accepted(answer) {
-        return Cycle {
-            grant: asked.grant,
-            access: asked.access,
-            offset: asked.offset,
-            passed: marks(answer),
-        };
-    }
-    refused(answer)
+    let high = flag(inputs.ba_high);
+    let phi1 = flag(inputs.ba_high_phi1);
+    let low = flag(inputs.ba_low);
+    let value = answer(reu::reu_run_reu_cycle(image, bus, storage, high, number, low, phi1))?;
+    let cycle = asked?;
+    Ok(Cycle {
+        passed: marks(value),
+        ..cycle
+    })
 }
 
 // ---- one cycle, shown
@@ -118,45 +143,50 @@ fn ba_text(line: Line, letter: u8) -> Line
     }
 }
 
-fn grant_text(line: Line, grant: u32) -> Line
-    ensures { text_of result ≡ text_of line ⊕ grant_text grant }
+fn grant_text(grant: ReuBusAction) -> &'static [u8]
+    ensures { result.now ≡ grant_text grant }
 {
     match grant {
-        0 => line.text(b"Cpu     "),
-        1 => line.text(b"Hold    "),
-        2 => line.text(b"Transfer"),
-        _ => refusal(line, grant),
+        ReuBusAction::Cpu => b"Cpu     ",
+        ReuBusAction::Hold => b"Hold    ",
+        ReuBusAction::Transfer => b"Transfer",
     }
 }
 
 #[tactic(auto, unfolding(crate::specs::Step::access_text))]
-fn access_text(line: Line, access: u32) -> Line
+fn access_text(line: Line, access: ReuC64Access) -> Line
     ensures { text_of result ≡ access_text (text_of line) access }
 {
-    let kind = access / 65536;
-    match kind {
-        0 => line.text(b"  no access"),
-        1 => line.text(b"  read  ").hex4(access % 65536),
-        _ => line.text(b"  write ").hex4(access % 65536),
+    match access {
+        ReuC64Access::None => line.text(b"  no access"),
+        ReuC64Access::Read(address) => line.text(b"  read  ").hex(4, u32::from(address.0)),
+        ReuC64Access::Write(address) => line.text(b"  write ").hex(4, u32::from(address.0)),
     }
 }
 
 // The two bytes at the transfer's place, as they are after the cycle.
-#[tactic(auto, unfolding(crate::specs::Step::bytes_there))]
-fn bytes_there(line: Line, done: Cycle, bus: &[u8], storage: &[u8]) -> Line
-    ensures { text_of result ≡ bytes_there (text_of line) done bus.now storage.now }
+fn bytes_at(line: Line, address: C64Address, offset: u32, bus: &[u8], storage: &[u8]) -> Line
+    ensures { text_of result ≡ bytes_at (text_of line) address offset bus.now storage.now }
 {
-    if done.access == 0 {
-        return line;
-    }
-    let at = (done.access % 65536) as usize;
-    let offset = done.offset as usize;
     line.text(b"  bus ")
-        .hex2(byte(bus, at))
+        .hex(2, u32::from(byte(bus, usize::from(address.0))))
         .text(b"  storage ")
-        .hex5(done.offset)
+        .hex(5, offset)
         .text(b" ")
-        .hex2(byte(storage, offset))
+        .hex(2, u32::from(byte(storage, offset as usize)))
+}
+
+// None, where there is no access.
+#[tactic(auto, unfolding(crate::specs::Step::bytes_by))]
+fn bytes_by(line: Line, done: Cycle, bus: &[u8], storage: &[u8]) -> Line
+    ensures { text_of result ≡ bytes_by (text_of line) done.access done.offset bus.now storage.now }
+{
+    match done.access {
+        ReuC64Access::None => line,
+        ReuC64Access::Read(address) | ReuC64Access::Write(address) => {
+            bytes_at(line, address, done.offset, bus, storage)
+        }
+    }
 }
 
 fn mark_if(line: Line, shown: bool, mark: &[u8]) -> Line
@@ -169,6 +199,7 @@ fn mark_if(line: Line, shown: bool, mark: &[u8]) -> Line
 }
 
 // A mark for each address that ran over its top, behind what a line has.
+#[tactic(auto, unfolding(crate::specs::Step::passed_text))]
 fn passed_text(line: Line, passed: Passed) -> Line
     ensures { text_of result ≡ passed_text (text_of line) passed }
 {
@@ -176,35 +207,45 @@ fn passed_text(line: Line, passed: Passed) -> Line
     mark_if(marked, passed.expansion, b"  exp passed FFFFFF")
 }
 
-// A cycle by its number, BA, the grant, the access, the bytes and the marks; a refused one made no access.
+// The grant, the access, the bytes and the marks, behind what a line has; a refused cycle has its refusal alone.
+#[tactic(auto, unfolding(crate::specs::Step::done_text))]
+fn done_text(line: Line, done: Result<Cycle, Refused>, bus: &[u8], storage: &[u8]) -> Line
+    ensures { text_of result ≡ done_text (text_of line) done bus.now storage.now }
+{
+    match done {
+        Ok(cycle) => {
+            let granted = line.text(grant_text(cycle.grant));
+            let there = bytes_by(access_text(granted, cycle.access), cycle, bus, storage);
+            passed_text(there, cycle.passed)
+        }
+        Err(refused) => refused.shown(line),
+    }
+}
+
+// A cycle by its number, BA and what was done.
 #[tactic(auto, unfolding(crate::specs::Step::cycle_line))]
-pub fn cycle_line(clock: Clock, done: Cycle, bus: &[u8], storage: &[u8]) -> Line
-    ensures { text_of result ≡ cycle_line clock done bus.now storage.now }
+pub fn cycle_line(clock: &Clock, done: Result<Cycle, Refused>, bus: &[u8], storage: &[u8]) -> Line
+    ensures { text_of result ≡ cycle_line clock.now done bus.now storage.now }
 {
     let line = ba_text(Line::new().decimal(clock.cycle), clock.letter());
-    let granted = grant_text(line, done.grant);
-    if is_accepted(done.grant) {
-        let there = bytes_there(access_text(granted, done.access), done, bus, storage);
-        return passed_text(there, done.passed);
-    }
-    granted
+    done_text(line, done, bus, storage)
 }
 
 // The time after a cycle: one that was refused takes none.
 #[tactic(auto, unfolding(crate::specs::Step::time_after))]
-pub fn after(clock: Clock, grant: u32) -> Clock
-    ensures { time_of result ≡ time_after (time_of clock) grant }
+pub fn after(clock: Clock, done: Result<Cycle, Refused>) -> Clock
+    ensures { time_of result ≡ time_after (time_of clock) done }
 {
-    if is_accepted(grant) {
-        return clock.next();
+    match done {
+        Ok(_) => clock.next(),
+        Err(_) => clock,
     }
-    clock
 }
 
 // ---- until the command ends
 
 // How far a run came, and which address ran over its top in any of its cycles.
-#[derive(Clone, Copy)]
+#[derive(Drop)]
 pub struct Run {
     pub clock: Clock,
     pub granted: u64,
@@ -223,29 +264,27 @@ fn either(one: Passed, other: Passed) -> Passed
 
 // A cycle more, unless it was refused.
 #[tactic(auto, unfolding(crate::specs::Step::counted))]
-fn count(run: Run, done: Cycle) -> Run
+fn count(run: Run, done: Result<Cycle, Refused>) -> Run
     ensures { result ≡ counted run done }
 {
+    let Ok(cycle) = done else {
+        return run;
+    };
     let clock = run.clock.next();
-    let passed = either(run.passed, done.passed);
-    if done.grant == TRANSFER {
-        let granted = std::num::wrapping_add_u64(run.granted, 1);
-        return Run {
+    let passed = either(run.passed, cycle.passed);
+    match cycle.grant {
+        ReuBusAction::Transfer => Run {
             clock,
-            granted,
+            granted: run.granted.wrapping_add(1),
             held: run.held,
             passed,
-        };
-    }
-    if !is_accepted(done.grant) {
-        return run;
-    }
-    let held = std::num::wrapping_add_u64(run.held, 1);
-    Run {
-        clock,
-        granted: run.granted,
-        held,
-        passed,
+        },
+        ReuBusAction::Cpu | ReuBusAction::Hold => Run {
+            clock,
+            granted: run.granted,
+            held: run.held.wrapping_add(1),
+            passed,
+        },
     }
 }
 
@@ -257,8 +296,8 @@ fn advance(run: Run, image: &mut [u8], bus: &mut [u8], storage: &mut [u8]) -> Ru
     if reu::reu_dma_active(image) != 1 {
         return run;
     }
-    let clock = run.clock;
-    let done = run_cycle(clock.inputs(), clock.cycle, image, bus, storage);
+    let inputs = run.clock.inputs();
+    let done = run_cycle(inputs, run.clock.cycle, image, bus, storage);
     count(run, done)
 }
 
@@ -270,39 +309,34 @@ pub fn go(clock: Clock, limit: u32, image: &mut [u8], bus: &mut [u8], storage: &
         clock,
         granted: 0,
         held: 0,
-        passed: NO_MARKS,
+        passed: Passed::NEITHER,
     };
-    let mut left = limit;
-    while left > 0 {
+    for _ in 0..limit {
         run = advance(run, image, bus, storage);
-        left -= 1;
     }
     run
 }
 
 // How many cycles a run had, and how it ended.
 #[tactic(auto, unfolding(crate::specs::Step::run_text))]
-fn run_text(run: Run, image: &[u8]) -> Line
-    ensures { text_of result ≡ run_text run image.now }
+fn run_text(run: &Run, image: &[u8]) -> Line
+    ensures { text_of result ≡ run_text run.now image.now }
 {
     let line = Line::new()
         .decimal(run.granted)
         .text(b" cycles granted, ")
         .decimal(run.held);
-    let active = reu::reu_dma_active(image);
-    if active == 0 {
-        return line.text(b" held: the command has ended");
+    match answer(reu::reu_dma_active(image)) {
+        Ok(0) => line.text(b" held: the command has ended"),
+        Ok(_) => line.text(b" held: at the limit, and the command still runs"),
+        Err(refused) => refused.shown(line.text(b" held: the image is ")),
     }
-    if is_accepted(active) {
-        return line.text(b" held: at the limit, and the command still runs");
-    }
-    refusal(line.text(b" held: the image is "), active)
 }
 
 // What to say of a run.
 #[tactic(auto, unfolding(crate::specs::Step::run_line))]
-pub fn run_line(run: Run, image: &[u8]) -> Line
-    ensures { text_of result ≡ run_line run image.now }
+pub fn run_line(run: &Run, image: &[u8]) -> Line
+    ensures { text_of result ≡ run_line run.now image.now }
 {
     passed_text(run_text(run, image), run.passed)
 }

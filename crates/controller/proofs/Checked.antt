@@ -6,7 +6,8 @@ use lib.Dec.{eqb}
 use native.Mathlib.Omega.{arith}
 use borrow.Author.Tests.{eqb-true, eq-eqb, ne_eqb}
 use mathlib.Core.List.{List}
-use Rattle.controller.specs.Prelude.{Passed, Reu, ReuBusAction, Cpu, Hold, Transfer}
+use Rattle.controller.specs.Prelude.{Passed, Reu, ReuBusAction, Cpu, Hold, Transfer, Refusal, Length, Field, Size, Attached}
+use Rattle.controller.specs.Answers.{refusal_number}
 use Rattle.transfer.specs.Constants.{bus_size}
 use Rattle.transfer.specs.Memory.{is_size}
 use Rattle.transfer.proofs.Bits.{bit_most}
@@ -52,6 +53,22 @@ module _ {A : Type 0} (n k : ℕ) (e : n ≡ k) (refused : ℕ → A) (x a : A) 
   unfolding checked
   not_done ne h =
       h ∙ ap refused e ∙ sym (ap (λ (t : Bool). cond t a (refused k)) (ap (λ (j : ℕ). eqb j 0) (sym e) ∙ ne_eqb n 0 ne))
+
+-- a refusal has a number
+pub refusal_some : (e : Refusal) → refusal_number e ≡ 0 → ⊥
+refusal_some Length q = absurd (omega arith)
+refusal_some Field q = absurd (omega arith)
+refusal_some Refusal.Bus q = absurd (omega arith)
+refusal_some Refusal.Storage q = absurd (omega arith)
+refusal_some Size q = absurd (omega arith)
+refusal_some Attached q = absurd (omega arith)
+
+-- a call whose test is passed is done, and one whose test is not is refused by its number
+pub passed : {A : Type 0} (k : ℕ) (refused : ℕ → A) (a : A) → 0 ≡ k → a ≡ checked k refused a
+passed k refused a e = done 0 k e refused a a refl refl
+
+pub not_passed : {A : Type 0} (k : ℕ) (refused : ℕ → A) (a : A) (e : Refusal) → refusal_number e ≡ k → refused (refusal_number e) ≡ checked k refused a
+not_passed k refused a e q = not_done (refusal_number e) k q refused (refused (refusal_number e)) a (refusal_some e) refl
 
 -- a tick and a cycle that are done are no refusal
 pub tick_accepted : (u : Reu) (m s : List ℕ) (cycle : ℕ) (low : Bool) → (tick_dma u m s cycle low).0.refusal ≡ 0

@@ -4,7 +4,7 @@ use mathlib.Core.Path.{◌≡◌}
 use Prim.Native.Nat.{◌≤◌, ◌<◌}
 use lib.Dec.{leb, ltb}
 use borrow.Author.Tests.{leb-true, ltb-true}
-use Rattle.controller.specs.Prelude.{Reu, Dma, Idle, Running, DmaState}
+use Rattle.controller.specs.Prelude.{Reu, Option, None, Some, DmaState}
 use Rattle.transfer.specs.Constants.{status, expansion_limit, full_length}
 use Rattle.controller.specs.Inner.{InRange, InRangeDma}
 use Rattle.controller.specs.Refusals.{well_formed, well_size}
@@ -21,9 +21,9 @@ well_transfer_lem d e =
       addr = ltb-true _ _ (fst (ltb d.reu_addr.0 expansion_limit) _ (snd (leb 1 d.remaining && leb d.remaining full_length) _ e));
     }
 
-well_dma_lem : (attached : Bool) (x : Dma) → well_dma attached x ≡ true → InRangeDma x
-well_dma_lem a Idle e = tt
-well_dma_lem a (Running d) e = well_transfer_lem d (snd a _ e)
+well_dma_lem : (attached : Bool) (x : Option DmaState) → well_dma attached x ≡ true → InRangeDma x
+well_dma_lem a None e = tt
+well_dma_lem a (Some d) e = well_transfer_lem d (snd a _ e)
 
 pub well_range : (u : Reu) → well_formed u ≡ true → InRangeDma u.dma
 unfolding well_formed

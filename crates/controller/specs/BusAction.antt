@@ -1,6 +1,6 @@
 -- `bus_action`, the grant of a cycle, in the original's order: the rise, the recall's fall, the terminal pair, the delay, the fall rules, the grant record.
 use Rattle.std.specs.Prelude.{◌-◌, ◌&&◌, ◌||◌}
-use Rattle.controller.specs.Prelude.{ℕ, Bool, true, false, not, cond, List, eqb, Put, Nothing, Hold, Transfer, ReuBusAction, Reu, BusAnswer, FlagAnswer}
+use Rattle.controller.specs.Prelude.{ℕ, Bool, true, false, not, cond, List, eqb, Put, Nothing, Hold, Transfer, ReuBusAction, Reu, BusAnswer, Answered}
 use Rattle.transfer.specs.Constants.{command, without_ff00}
 use Rattle.transfer.specs.Bytes.{bit}
 use Rattle.controller.specs.Reu.{reg, with_dma, with_history, with_repeat, with_terminal, with_refresh, with_release, with_delay}
@@ -79,5 +79,5 @@ bus_action u s high phi1 cycle =
     (next_action u high phi1 cycle, put_storage u.size (next_action u high phi1 cycle).put s)
 
 -- "`cpu_ready_after_dma` is BA high or the release flag, and always clears the flag"
-abbrev pub cpu_ready_after_dma : Reu → Bool → FlagAnswer
-cpu_ready_after_dma u high = record { flag = u.swap_release_pending || high; reu = with_release u false }
+abbrev pub cpu_ready_after_dma : Reu → Bool → Answered Bool
+cpu_ready_after_dma u high = record { value = u.swap_release_pending || high; reu = with_release u false }

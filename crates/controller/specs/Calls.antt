@@ -1,6 +1,7 @@
 -- The public calls on a controller value: "A refusal has value 0 and changes no controller and no byte of anything lent".
 use Rattle.std.specs.Prelude.{◌+◌}
-use Rattle.controller.specs.Prelude.{ℕ, Bool, false, cond, List, length, Passed, Reu, Answer, StepAnswer, Stepped}
+use Rattle.controller.specs.Prelude.{ℕ, Bool, false, cond, List, length, Passed, Reu}
+use Rattle.controller.specs.Answers.{Answer, StepAnswer, Stepped}
 use Rattle.transfer.specs.Constants.{bus_size}
 use Rattle.transfer.specs.Bytes.{bit_of}
 use Rattle.controller.specs.Registers.{read_register, write_register, debug_register}
@@ -62,7 +63,7 @@ unfoldable pub dma_active_call : Reu → Answer
 dma_active_call u = call u (answered (bit_of (active u.dma)) u)
 
 unfoldable pub cpu_ready_call : Reu → Bool → Answer
-cpu_ready_call u high = call u (answered (bit_of (cpu_ready_after_dma u high).flag) (cpu_ready_after_dma u high).reu)
+cpu_ready_call u high = call u (answered (bit_of (cpu_ready_after_dma u high).value) (cpu_ready_after_dma u high).reu)
 
 unfoldable pub debug_register_call : Reu → ℕ → Answer
 debug_register_call u i = call u (answered (debug_register u i) u)

@@ -1,6 +1,6 @@
 -- New, reset, the size, and the enable switch.
 use Rattle.std.specs.Prelude.{◌∷◌}
-use Rattle.controller.specs.Prelude.{ℕ, Bool, true, false, cond, List, [], Idle, Reu}
+use Rattle.controller.specs.Prelude.{ℕ, Bool, true, false, cond, List, [], None, Reu}
 use Rattle.transfer.specs.Constants.{new_size, status, version, without_ff00, bank_ones, mask_ones, control_ones}
 use Rattle.transfer.specs.Bytes.{ones, set_bits, clear_bits}
 use Rattle.controller.specs.Reu.{reg, set_reg, with_power, with_size, with_dma, cleared}
@@ -31,7 +31,7 @@ fresh enabled attached size =
       swap_refresh = false;
       swap_release_pending = false;
       swap_read_delay = 0;
-      dma = Idle;
+      dma = None;
       granted_cycles = 0;
       size = size;
     }
@@ -49,7 +49,7 @@ set_size u size = with_size (set_reg u status (with_mark size (reg u status))) s
 
 -- "Disabling drops the transfer, clears what a start clears, lowers the interrupt level, keeps all registers and the two BA history flags"
 abbrev pub disabled : Reu → Reu
-disabled u = with_dma (with_power (cleared u) false false u.attached false) Idle
+disabled u = with_dma (with_power (cleared u) false false u.attached false) None
 
 abbrev pub connected : Reu → Reu
 connected u = with_power u true u.irq_pending true u.waiting_ff00

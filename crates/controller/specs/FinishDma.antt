@@ -1,6 +1,6 @@
 -- The visible counters, the interrupt, and the end of a command.
 use Rattle.std.specs.Prelude.{◌||◌, ◌∷◌}
-use Rattle.controller.specs.Prelude.{Bool, [], DmaState, Idle, Reu}
+use Rattle.controller.specs.Prelude.{Bool, [], DmaState, None, Reu}
 use Rattle.transfer.specs.Constants.{interrupt}
 use Rattle.transfer.specs.Bytes.{ones}
 use Rattle.regs.specs.FinishDma.{irq_due, marked, counters, finished, autoloaded}
@@ -21,4 +21,4 @@ finish_dma u d ended =
     (with_dma
     (with_regs u
     (autoloaded (finished u.regs ended) d.autoload u.shadow_c64_addr u.shadow_reu_addr u.shadow_len))
-    Idle)
+    None)

@@ -1,5 +1,6 @@
 pub mod Prelude
 pub mod Reu
+pub mod Answers
 pub mod Registers
 pub mod Timing
 pub mod StartDma

@@ -1,5 +1,5 @@
 -- The register record: what a read gives and does, what a write does, in the terms of the public register descriptions.
-use Rattle.controller.specs.Prelude.{ℕ, true, false, cond, eqb, ltb, set, Reu, ReadAnswer}
+use Rattle.controller.specs.Prelude.{ℕ, true, false, cond, eqb, ltb, set, Reu, Answered}
 use Rattle.transfer.specs.Constants.{status, command, c64_low, c64_high, exp_low, exp_high, exp_bank, length_low, length_high, interrupt_mask, address_control, register_count, unused_register, without_ff00, execute}
 use Rattle.transfer.specs.Bytes.{bit, low_byte, high_byte, with_low, with_high, with_bank}
 use Rattle.regs.specs.Registers.{register_index, shown, acknowledged}
@@ -10,7 +10,7 @@ use Rattle.controller.specs.FinishDma.{update_irq}
 -- ---- read
 
 -- "A read returns the old byte, then bits 5, 6 and 7 of STATUS are cleared and the interrupt level falls"
-abbrev pub read_at : Reu → ℕ → ReadAnswer
+abbrev pub read_at : Reu → ℕ → Answered ℕ
 read_at u i =
     cond (ltb i register_count)
     (cond (eqb i status)
@@ -18,7 +18,7 @@ read_at u i =
     (record { value = shown i (reg u i); reu = u }))
     (record { value = unused_register; reu = u })
 
-unfoldable pub read_register : Reu → ℕ → ReadAnswer
+unfoldable pub read_register : Reu → ℕ → Answered ℕ
 read_register u addr = read_at u (register_index addr)
 
 -- ---- write

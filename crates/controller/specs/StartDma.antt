@@ -1,6 +1,6 @@
 -- A start, at once or by the FF00 trigger.
 use Rattle.std.specs.Prelude.{◌&&◌, ◌∷◌}
-use Rattle.controller.specs.Prelude.{false, cond, [], Running, Reu}
+use Rattle.controller.specs.Prelude.{false, cond, [], Some, Reu}
 use Rattle.transfer.specs.Constants.{status, command, version, execute}
 use Rattle.transfer.specs.Bytes.{bit, clear_bits, keep_bits}
 use Rattle.regs.specs.StartDma.{requested}
@@ -12,7 +12,7 @@ unfoldable pub start_dma : Reu → Reu
 start_dma u =
     cond u.attached
     (with_granted
-    (with_dma (with_irq (set_reg (cleared u) status (keep_bits (version ∷ []) (reg u status))) false) (Running (requested u.regs)))
+    (with_dma (with_irq (set_reg (cleared u) status (keep_bits (version ∷ []) (reg u status))) false) (Some (requested u.regs)))
     0)
     (set_reg (cleared u) command (clear_bits (execute ∷ []) (reg u command)))
 

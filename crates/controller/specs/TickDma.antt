@@ -1,6 +1,7 @@
 -- `tick_dma`, one granted cycle of a transfer. It sees the two bytes at the transfer's place, and writes at most one byte.
 use Rattle.std.specs.Prelude.{◌&&◌, ◌||◌, ◌∷◌}
-use Rattle.controller.specs.Prelude.{ℕ, Bool, true, false, not, cond, List, [], eqb, Store, Recall, Swap, Verify, TransferType, SwapPhase, ReadC64, WriteC64, DmaState, Dma, Idle, Running, Seen, Put, Nothing, Bus, Storage, Passed, Reu, StepAnswer, TickAnswer}
+use Rattle.controller.specs.Prelude.{ℕ, Bool, true, false, not, cond, List, [], eqb, Store, Recall, Swap, Verify, TransferType, SwapPhase, ReadC64, WriteC64, DmaState, Option, None, Some, Seen, Put, Nothing, Bus, Storage, Passed, Reu, TickAnswer}
+use Rattle.controller.specs.Answers.{StepAnswer}
 use Rattle.transfer.specs.Constants.{verify_error}
 use Rattle.transfer.specs.Bytes.{bit, ones}
 use Rattle.regs.specs.FinishDma.{marked}
@@ -24,14 +25,14 @@ quiet_tick flag u put = reports flag neither u put
 unfoldable pub advance : Reu → DmaState → Bool → Bool → Put → TickAnswer
 advance u d error low put =
     cond (error && (not (eqb d.remaining 1) && eqb (moved d).remaining 1))
-    (reports true (passed d) (with_dma (publish_live_counters u (moved d)) (Running (with_tail (moved d) true))) put)
+    (reports true (passed d) (with_dma (publish_live_counters u (moved d)) (Some (with_tail (moved d) true))) put)
     (cond (eqb d.remaining 1 || error)
     (reports false (passed d)
     (finish_dma
     (with_release (publish_live_counters u (moved d)) (eqb d.remaining 1 && (is_type d.transfer_type Swap && not low)))
     (moved d) (eqb d.remaining 1))
     put)
-    (reports true (passed d) (with_dma (publish_live_counters u (moved d)) (Running (moved d))) put))
+    (reports true (passed d) (with_dma (publish_live_counters u (moved d)) (Some (moved d))) put))
 
 -- a store: the C64's byte goes to the storage
 unfoldable pub tick_store : Reu → DmaState → Seen → Bool → TickAnswer
@@ -45,7 +46,7 @@ tick_recall u d b low =
 
 -- a swap: its first half latches the storage's byte and puts the C64's there, its second half puts the latch to the C64
 unfoldable pub swap_read : Reu → DmaState → Seen → ℕ → TickAnswer
-swap_read u d b cycle = quiet_tick true (with_dma u (Running (latched d b cycle))) (Storage d.reu_addr b.bus)
+swap_read u d b cycle = quiet_tick true (with_dma u (Some (latched d b cycle))) (Storage d.reu_addr b.bus)
 
 unfoldable pub swap_write : Reu → DmaState → Bool → TickAnswer
 swap_write u d low = advance u d false low (Bus d.c64_addr d.latch)
@@ -73,7 +74,7 @@ tick_by_type Verify u d b cycle low = tick_verify u d b low
 -- a refresh reads the C64's byte once more into the storage, and takes the parity anew
 unfoldable pub tick_refresh : Reu → DmaState → Seen → ℕ → TickAnswer
 tick_refresh u d b cycle =
-    quiet_tick true (with_dma (with_refresh u false) (Running (with_odd d (bit cycle 0)))) (Storage d.reu_addr b.bus)
+    quiet_tick true (with_dma (with_refresh u false) (Some (with_odd d (bit cycle 0)))) (Storage d.reu_addr b.bus)
 
 -- the tail "sets bit 6 exactly if equal, and moves no counter"
 unfoldable pub tick_tail : Reu → DmaState → Seen → TickAnswer
@@ -84,10 +85,10 @@ tick_running u d b cycle low =
     cond u.swap_refresh (tick_refresh u d b cycle)
     (cond d.verify_tail (tick_tail u d b) (tick_by_type d.transfer_type u d b cycle low))
 
-unfoldable pub tick_of : Dma → Reu → Seen → ℕ → Bool → TickAnswer
-tick_of Idle u b cycle low = quiet_tick false u Nothing
-tick_of (Running d) u b cycle low =
-    cond u.attached (tick_running u d b cycle low) (quiet_tick false (with_dma u Idle) Nothing)
+unfoldable pub tick_of : Option DmaState → Reu → Seen → ℕ → Bool → TickAnswer
+tick_of None u b cycle low = quiet_tick false u Nothing
+tick_of (Some d) u b cycle low =
+    cond u.attached (tick_running u d b cycle low) (quiet_tick false (with_dma u None) Nothing)
 
 -- ---- on a bus and a storage
 

@@ -1,10 +1,11 @@
 // The machine's cycle over the controller: run_reu_cycle of the original's src/memory/memory.rs, and the step over a lent controller.
 ghost use Rattle.std.specs.Prelude.{◌≡◌};
+ghost use Rattle.controller.specs.Answers.{step_of, stepped_of};
 ghost use Rattle.controller.specs.Calls.{step_call};
 ghost use Rattle.controller.specs.Cycle.{counted, cycle_by, run_reu_cycle};
 
-use crate::constants::{ACCEPTED, MOST_GRANTED};
-use crate::reu::{Reu, StepAnswer, Stepped};
+use crate::refusals::Refusal;
+use crate::reu::{Answered, Reu, Step};
 use transfer::ReuBusAction;
 
 impl Reu {
@@ -13,12 +14,7 @@ impl Reu {
     fn counted(mut self) -> Reu
         ensures { result ≡ counted self }
     {
-        let before = self.granted_cycles;
-        self.granted_cycles = if before < MOST_GRANTED {
-            before + 1
-        } else {
-            MOST_GRANTED
-        };
+        self.granted_cycles = self.granted_cycles.saturating_add(1);
         self
     }
 
@@ -30,27 +26,24 @@ impl Reu {
         storage: &mut [u8],
         cycle: u64,
         ba_low: bool,
-    ) -> StepAnswer
-        ensures { (result, bus.new, storage.new) ≡ cycle_by action self bus.old storage.old cycle ba_low }
+    ) -> Answered<Step>
+        ensures { (step_of result, bus.new, storage.new) ≡ cycle_by action self bus.old storage.old cycle ba_low }
     {
         match action {
-            ReuBusAction::Cpu => self.quiet_step(ACCEPTED, false),
-            ReuBusAction::Hold => self.quiet_step(ACCEPTED, true),
+            ReuBusAction::Cpu => self.answered(Step::quiet(false)),
+            ReuBusAction::Hold => self.answered(Step::quiet(true)),
             ReuBusAction::Transfer => {
                 let ticked = self.tick(bus, storage, cycle, ba_low);
-                let passed = ticked.passed;
-                let reu = ticked.reu;
-                StepAnswer {
-                    refusal: ACCEPTED,
+                ticked.reu.counted().answered(Step {
                     flag: true,
-                    passed,
-                    reu: reu.counted(),
-                }
+                    passed: ticked.value.passed,
+                })
             }
         }
     }
 
     // One cycle: the grant, and on Transfer a tick, which is counted. Answers false for Cpu.
+    #[tactic(auto, unfolding(crate::specs::Cycle::run_reu_cycle, crate::specs::BusAction::bus_action))]
     pub(crate) fn cycle(
         self,
         bus: &mut [u8],
@@ -59,15 +52,14 @@ impl Reu {
         ba_high_phi1: bool,
         cycle: u64,
         ba_low: bool,
-    ) -> StepAnswer
-        ensures { (result, bus.new, storage.new) ≡ run_reu_cycle self bus.old storage.old ba_high ba_high_phi1 cycle ba_low }
+    ) -> Answered<Step>
+        ensures { (step_of result, bus.new, storage.new) ≡ run_reu_cycle self bus.old storage.old ba_high ba_high_phi1 cycle ba_low }
     {
-        let answer = self.next_action(ba_high, ba_high_phi1, cycle);
-        let action = answer.action;
-        let put = answer.put;
-        let reu = answer.reu;
-        put.to_storage(self.size, storage);
-        reu.cycle_by(action, bus, storage, cycle, ba_low)
+        let granted = self.next_action(ba_high, ba_high_phi1, cycle);
+        granted.put.to_storage(self.size, storage);
+        granted
+            .reu
+            .cycle_by(granted.action, bus, storage, cycle, ba_low)
     }
 }
 
@@ -80,15 +72,10 @@ pub fn step(
     ba_high_phi1: bool,
     cycle: u64,
     ba_low: bool,
-) -> Stepped
-    ensures { (result, reu.new, bus.new, storage.new) ≡ step_call reu.old bus.old storage.old ba_high ba_high_phi1 cycle ba_low }
+) -> Result<Step, Refusal>
+    ensures { (stepped_of result, reu.new, bus.new, storage.new) ≡ step_call reu.old bus.old storage.old ba_high ba_high_phi1 cycle ba_low }
 {
-    let before = *reu;
-    let done = before.run_reu_cycle(bus, storage, ba_high, ba_high_phi1, cycle, ba_low);
+    let done = reu.run_reu_cycle(bus, storage, ba_high, ba_high_phi1, cycle, ba_low)?;
     *reu = done.reu;
-    Stepped {
-        refusal: done.refusal,
-        flag: done.flag,
-        passed: done.passed,
-    }
+    Ok(done.value)
 }

@@ -4,7 +4,7 @@ ghost use Rattle.controller.specs.FinishDma.{finish_dma, publish_live_counters, 
 
 use crate::reu::Reu;
 use regs::{STATUS_IRQ_PENDING, autoloaded, counters, finished, irq_due, marked};
-use transfer::{Dma, DmaState};
+use transfer::DmaState;
 
 impl Reu {
     // This only ever raises the interrupt.
@@ -12,11 +12,9 @@ impl Reu {
     pub(crate) fn update_irq(mut self) -> Reu
         ensures { result ≡ update_irq self }
     {
-        let regs = self.regs;
-        let due = irq_due(regs);
-        let shown = marked(regs, STATUS_IRQ_PENDING, due);
-        self.regs = shown;
-        self.irq_pending = due | self.irq_pending;
+        let due = irq_due(self.regs);
+        self.regs = marked(self.regs, STATUS_IRQ_PENDING, due);
+        self.irq_pending |= due;
         self
     }
 
@@ -24,11 +22,7 @@ impl Reu {
     pub(crate) fn publish_live_counters(mut self, dma: DmaState) -> Reu
         ensures { result ≡ publish_live_counters self dma }
     {
-        let regs = self.regs;
-        let c64 = dma.c64_addr;
-        let expansion = dma.reu_addr;
-        let shown = counters(regs, c64.0, expansion.0, dma.remaining);
-        self.regs = shown;
+        self.regs = counters(self.regs, dma.c64_addr.0, dma.reu_addr.0, dma.remaining);
         self
     }
 
@@ -36,18 +30,17 @@ impl Reu {
     pub(crate) fn finish_dma(self, dma: DmaState, completed: bool) -> Reu
         ensures { result ≡ finish_dma self dma completed }
     {
-        let idle = Dma::Idle;
-        let regs = self.regs;
-        let ended = finished(regs, completed);
-        let shown = autoloaded(
-            ended,
+        let regs = autoloaded(
+            finished(self.regs, completed),
             dma.autoload,
             self.shadow_c64_addr,
             self.shadow_reu_addr,
             self.shadow_len,
         );
-        let mut reu = self.with_dma(idle);
-        reu.regs = shown;
-        reu.update_irq()
+        Reu {
+            regs,
+            ..self.stopped()
+        }
+        .update_irq()
     }
 }

@@ -16,4 +16,5 @@ mod start_dma;
 mod tick_dma;
 
 pub use cycle::step;
-pub use reu::{Answer, Reu, StepAnswer, Stepped};
+pub use refusals::Refusal;
+pub use reu::{Answered, Reu, Step};

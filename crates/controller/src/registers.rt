@@ -1,43 +1,35 @@
 // The register interface.
-ghost use Rattle.std.specs.Prelude.{◌≡◌};
+ghost use Rattle.std.specs.Prelude.{◌≡◌, ◌+◌, ◌<◌};
 ghost use Rattle.transfer.specs.Constants.{address_control, interrupt_mask};
 ghost use Rattle.regs.specs.Registers.{shown};
 ghost use Rattle.controller.specs.Reu.{set_reg};
 ghost use Rattle.controller.specs.FinishDma.{update_irq};
-ghost use Rattle.controller.specs.Registers.{debug_register, read_register, write_bank, write_c64, write_command, write_exp, write_len, write_register};
+ghost use Rattle.controller.specs.Registers.{debug_register, load_pair, read_register, write_bank, write_c64, write_command, write_exp, write_len, write_register};
 
-use crate::reu::{ReadAnswer, Reu};
+use crate::reu::{Answered, Reu};
 use regs::{
     ADDRESS_CONTROL, C64_ADDRESS_HIGH, C64_ADDRESS_LOW, COMMAND, COMMAND_EXECUTE,
-    COMMAND_FF00_DISABLE, INTERRUPT_MASK, REGISTER_COUNT, REU_ADDRESS_BANK, REU_ADDRESS_HIGH,
-    REU_ADDRESS_LOW, STATUS, TRANSFER_LENGTH_HIGH, TRANSFER_LENGTH_LOW, UNUSED_REGISTER_VALUE,
-    acknowledged, register_index, shown, with_bank32, with_high16, with_high32, with_low16,
-    with_low32,
+    COMMAND_FF00_DISABLE, INTERRUPT_MASK, REU_ADDRESS_BANK, REU_ADDRESS_HIGH, REU_ADDRESS_LOW,
+    STATUS, TRANSFER_LENGTH_HIGH, TRANSFER_LENGTH_LOW, UNUSED_REGISTER_VALUE, acknowledged,
+    register_index, shown, with_bank, with_high, with_low,
 };
 
 impl Reu {
     // Reading STATUS acknowledges the events, after the old byte is answered.
     #[tactic(auto, unfolding(crate::specs::Registers::read_register))]
-    pub(crate) fn read_register(self, addr: u16) -> ReadAnswer
+    pub(crate) fn read_register(self, addr: u16) -> Answered<u8>
         ensures { result ≡ read_register self addr }
     {
         let index = register_index(addr);
-        if index >= REGISTER_COUNT {
-            return ReadAnswer {
-                value: UNUSED_REGISTER_VALUE,
-                reu: self,
-            };
-        }
-        let stored = self.regs[index];
-        if index == STATUS {
-            let mut reu = self;
-            reu.regs[STATUS] = acknowledged(stored);
-            reu.irq_pending = false;
-            return ReadAnswer { value: stored, reu };
-        }
-        ReadAnswer {
-            value: shown(index, stored),
-            reu: self,
+        match self.regs.get(index).copied() {
+            None => self.answered(UNUSED_REGISTER_VALUE),
+            Some(stored) if index == STATUS => {
+                let mut reu = self;
+                reu.regs[STATUS] = acknowledged(stored);
+                reu.irq_pending = false;
+                reu.answered(stored)
+            }
+            Some(stored) => self.answered(shown(index, stored)),
         }
     }
 
@@ -58,29 +50,36 @@ impl Reu {
         self.start_dma()
     }
 
+    // A shadow is shown in the two registers of its pair.
+    fn with_pair(mut self, low: usize, shadow: u16) -> Reu
+        requires { low < 10 }
+        ensures { result ≡ load_pair self low (low + 1) shadow }
+    {
+        let [low_byte, high_byte] = shadow.to_le_bytes();
+        self.regs[low] = low_byte;
+        self.regs[low + 1] = high_byte;
+        self
+    }
+
     fn write_c64(mut self, shadow: u16) -> Reu
         ensures { result ≡ write_c64 self shadow }
     {
         self.shadow_c64_addr = shadow;
-        self.regs[C64_ADDRESS_LOW] = (shadow % 256) as u8;
-        self.regs[C64_ADDRESS_HIGH] = ((shadow >> 8) % 256) as u8;
-        self
+        self.with_pair(C64_ADDRESS_LOW, shadow)
     }
 
     fn write_reu(mut self, shadow: u32) -> Reu
         ensures { result ≡ write_exp self shadow }
     {
         self.shadow_reu_addr = shadow;
-        self.regs[REU_ADDRESS_LOW] = (shadow % 256) as u8;
-        self.regs[REU_ADDRESS_HIGH] = ((shadow >> 8) % 256) as u8;
-        self
+        self.with_pair(REU_ADDRESS_LOW, (shadow & 0xFFFF) as u16)
     }
 
     fn write_bank(mut self, bank: u8) -> Reu
         ensures { result ≡ write_bank self bank }
     {
         self.regs[REU_ADDRESS_BANK] = bank;
-        self.shadow_reu_addr = with_bank32(self.shadow_reu_addr, bank);
+        self.shadow_reu_addr = with_bank(self.shadow_reu_addr, bank);
         self
     }
 
@@ -88,9 +87,7 @@ impl Reu {
         ensures { result ≡ write_len self shadow }
     {
         self.shadow_len = shadow;
-        self.regs[TRANSFER_LENGTH_LOW] = (shadow % 256) as u8;
-        self.regs[TRANSFER_LENGTH_HIGH] = ((shadow >> 8) % 256) as u8;
-        self
+        self.with_pair(TRANSFER_LENGTH_LOW, shadow)
     }
 
     // Enabling an event that is already latched raises the interrupt.
@@ -115,13 +112,21 @@ impl Reu {
         let index = register_index(addr);
         match index {
             COMMAND => self.write_command(value),
-            C64_ADDRESS_LOW => self.write_c64(with_low16(self.shadow_c64_addr, value)),
-            C64_ADDRESS_HIGH => self.write_c64(with_high16(self.shadow_c64_addr, value)),
-            REU_ADDRESS_LOW => self.write_reu(with_low32(self.shadow_reu_addr, value)),
-            REU_ADDRESS_HIGH => self.write_reu(with_high32(self.shadow_reu_addr, value)),
+            C64_ADDRESS_LOW => self.write_c64(
+                with_low(u32::from(self.shadow_c64_addr), value) as u16,
+            ),
+            C64_ADDRESS_HIGH => self.write_c64(
+                with_high(u32::from(self.shadow_c64_addr), value) as u16,
+            ),
+            REU_ADDRESS_LOW => self.write_reu(with_low(self.shadow_reu_addr, value)),
+            REU_ADDRESS_HIGH => self.write_reu(with_high(self.shadow_reu_addr, value)),
             REU_ADDRESS_BANK => self.write_bank(shown(REU_ADDRESS_BANK, value)),
-            TRANSFER_LENGTH_LOW => self.write_len(with_low16(self.shadow_len, value)),
-            TRANSFER_LENGTH_HIGH => self.write_len(with_high16(self.shadow_len, value)),
+            TRANSFER_LENGTH_LOW => self.write_len(
+                with_low(u32::from(self.shadow_len), value) as u16,
+            ),
+            TRANSFER_LENGTH_HIGH => self.write_len(
+                with_high(u32::from(self.shadow_len), value) as u16,
+            ),
             INTERRUPT_MASK => self.write_mask(value),
             ADDRESS_CONTROL => self.write_control(value),
             _ => self,
@@ -133,11 +138,9 @@ impl Reu {
     pub(crate) fn register_at(self, index: u64) -> u8
         ensures { result ≡ debug_register self index }
     {
-        if index < REGISTER_COUNT as u64 {
-            let at = index as usize;
-            self.regs[at]
-        } else {
-            UNUSED_REGISTER_VALUE
-        }
+        usize::try_from(index)
+            .ok()
+            .and_then(|at| self.regs.get(at).copied())
+            .unwrap_or(UNUSED_REGISTER_VALUE)
     }
 }

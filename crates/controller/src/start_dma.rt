@@ -5,20 +5,22 @@ ghost use Rattle.controller.specs.StartDma.{start_dma, trigger_ff00};
 
 use crate::reu::Reu;
 use regs::{COMMAND, COMMAND_EXECUTE, STATUS, STATUS_VERSION, requested};
-use transfer::{Dma, DmaState};
+use transfer::DmaState;
 
 impl Reu {
     // What each start clears.
-    pub(crate) fn cleared(mut self) -> Reu
+    pub(crate) fn cleared(self) -> Reu
         ensures { result ≡ cleared self }
     {
-        self.swap_refresh = false;
-        self.swap_release_pending = false;
-        self.terminal_swap_write = false;
-        self.swap_read_delay = 0;
-        self.recall_repeat = false;
-        self.waiting_ff00 = false;
-        self
+        Reu {
+            swap_refresh: false,
+            swap_release_pending: false,
+            terminal_swap_write: false,
+            swap_read_delay: 0,
+            recall_repeat: false,
+            waiting_ff00: false,
+            ..self
+        }
     }
 
     // With storage the count of granted cycles begins anew. Without it only bit 7 of COMMAND falls.
@@ -26,55 +28,34 @@ impl Reu {
     pub(crate) fn start_dma(self) -> Reu
         ensures { result ≡ start_dma self }
     {
-        let attached = self.attached;
-        let regs = self.regs;
-        let asked = requested(regs);
+        let asked = requested(self.regs);
         let mut reu = self.cleared();
-        if attached {
-            let status = reu.regs[STATUS];
-            reu.regs[STATUS] = status & STATUS_VERSION;
+        if reu.attached {
+            reu.regs[STATUS] &= STATUS_VERSION;
             reu.irq_pending = false;
             reu.granted_cycles = 0;
             reu.running(asked)
         } else {
-            let command = reu.regs[COMMAND];
-            reu.regs[COMMAND] = command & !COMMAND_EXECUTE;
+            reu.regs[COMMAND] &= !COMMAND_EXECUTE;
             reu
         }
     }
 
-    // The controller with another command state.
-    pub(crate) fn with_dma(self, dma: Dma) -> Reu
-        ensures { result ≡ with_dma self dma }
+    // The controller with a running command.
+    pub(crate) fn running(self, state: DmaState) -> Reu
+        ensures { result ≡ with_dma self (Some state) }
     {
-        let regs = self.regs;
         Reu {
-            regs,
-            shadow_c64_addr: self.shadow_c64_addr,
-            shadow_reu_addr: self.shadow_reu_addr,
-            shadow_len: self.shadow_len,
-            enabled: self.enabled,
-            irq_pending: self.irq_pending,
-            attached: self.attached,
-            waiting_ff00: self.waiting_ff00,
-            ba_was_high: self.ba_was_high,
-            recall_repeat: self.recall_repeat,
-            terminal_swap_write: self.terminal_swap_write,
-            late_ba_fall: self.late_ba_fall,
-            swap_refresh: self.swap_refresh,
-            swap_release_pending: self.swap_release_pending,
-            swap_read_delay: self.swap_read_delay,
-            dma,
-            granted_cycles: self.granted_cycles,
-            size: self.size,
+            dma: Some(state),
+            ..self
         }
     }
 
-    pub(crate) fn running(self, state: DmaState) -> Reu
-        ensures { result ≡ with_dma self (Dma.Running state) }
+    // The controller with no command.
+    pub(crate) fn stopped(self) -> Reu
+        ensures { result ≡ with_dma self None }
     {
-        let dma = Dma::Running(state);
-        self.with_dma(dma)
+        Reu { dma: None, ..self }
     }
 
     // The trigger starts an armed command whose bit 7 is still set.

@@ -1,65 +1,54 @@
 // One granted cycle of a transfer. A tick sees the two bytes at the transfer's place, and says what it writes.
 ghost use Rattle.std.specs.Prelude.{◌≡◌};
+ghost use Rattle.controller.specs.Answers.{step_of};
 ghost use Rattle.controller.specs.TickDma.{advance, swap_read, swap_write, tick_by_type, tick_dma, tick_of, tick_recall, tick_refresh, tick_running, tick_store, tick_swap, tick_tail, tick_verify, quiet_tick, with_error};
 
-use crate::constants::ACCEPTED;
-use crate::reu::{Reu, StepAnswer, TickAnswer};
+use crate::reu::{Answered, Reu, Step, TickAnswer};
 use regs::{STATUS_VERIFY_ERROR, marked};
-use transfer::{Dma, DmaState, Passed, Put, Seen, SwapPhase, TransferType};
+use transfer::{Completed, DmaState, Passed, Put, Seen, SwapPhase, TransferType};
 
 impl Reu {
     // A byte is done, with what was written for it: the counters move and are shown.
+    #[tactic(auto, unfolding(crate::specs::TickDma::advance, transfer::specs::Dma::complete_byte))]
     fn advance(self, d: DmaState, error: bool, ba_low: bool, put: Put) -> TickAnswer
         ensures { result ≡ advance self d error ba_low put }
     {
-        let kind = d.transfer_type;
-        let swap = TransferType::Swap;
-        let swaps = kind.is(swap);
-        let completed = d.complete_byte();
-        let done = completed.done;
-        let passed = completed.passed;
-        let next = completed.dma;
-        let shown = self.publish_live_counters(next);
-        if error & (!done & (next.remaining == 1)) {
-            let reu = shown.running(next.with_tail());
+        let Completed { done, passed, dma } = d.complete_byte();
+        let shown = self.publish_live_counters(dma);
+        let going_on = TickAnswer {
+            flag: true,
+            passed,
+            reu: shown.running(dma),
+            put,
+        };
+        if error & (!done & (dma.remaining == 1)) {
             return TickAnswer {
-                flag: true,
-                passed,
-                reu,
-                put,
+                reu: shown.running(dma.with_tail()),
+                ..going_on
             };
         }
         if done | error {
-            let mut last = shown;
-            last.swap_release_pending = done & (swaps & !ba_low);
-            let reu = last.finish_dma(next, done);
+            let swapped = d.transfer_type == TransferType::Swap;
+            let last = Reu {
+                swap_release_pending: done & (swapped & !ba_low),
+                ..shown
+            };
             return TickAnswer {
                 flag: false,
-                passed,
-                reu,
-                put,
+                reu: last.finish_dma(dma, done),
+                ..going_on
             };
         }
-        let reu = shown.running(next);
-        TickAnswer {
-            flag: true,
-            passed,
-            reu,
-            put,
-        }
+        going_on
     }
 
     // A tick that completes no byte, and so reports neither.
     fn quiet_tick(self, flag: bool, put: Put) -> TickAnswer
         ensures { result ≡ quiet_tick flag self put }
     {
-        let passed = Passed {
-            c64: false,
-            expansion: false,
-        };
         TickAnswer {
             flag,
-            passed,
+            passed: Passed::NEITHER,
             reu: self,
             put,
         }
@@ -69,41 +58,35 @@ impl Reu {
     fn tick_store(self, d: DmaState, seen: Seen, ba_low: bool) -> TickAnswer
         ensures { result ≡ tick_store self d seen ba_low }
     {
-        let addr = d.reu_addr;
-        let put = Put::Storage(addr, seen.bus);
-        self.advance(d, false, ba_low, put)
+        self.advance(d, false, ba_low, Put::Storage(d.reu_addr, seen.bus))
     }
 
     #[tactic(auto, unfolding(crate::specs::TickDma::tick_recall))]
     fn tick_recall(self, d: DmaState, seen: Seen, ba_low: bool) -> TickAnswer
         ensures { result ≡ tick_recall self d seen ba_low }
     {
-        let addr = d.c64_addr;
         let value = d.recalled(self.recall_repeat, seen);
-        let put = Put::Bus(addr, value);
-        let mut reu = self;
-        reu.recall_repeat = self.recall_repeat & d.first_byte;
-        let mut next = d;
-        next.latch = value;
-        reu.advance(next, false, ba_low, put)
+        let reu = Reu {
+            recall_repeat: self.recall_repeat & d.first_byte,
+            ..self
+        };
+        let next = DmaState { latch: value, ..d };
+        reu.advance(next, false, ba_low, Put::Bus(d.c64_addr, value))
     }
 
     #[tactic(auto, unfolding(crate::specs::TickDma::swap_read))]
     fn swap_read(self, d: DmaState, seen: Seen, cycle: u64) -> TickAnswer
         ensures { result ≡ swap_read self d seen cycle }
     {
-        let addr = d.reu_addr;
-        let put = Put::Storage(addr, seen.bus);
-        self.running(d.latched(seen, cycle)).quiet_tick(true, put)
+        self.running(d.latched(seen, cycle))
+            .quiet_tick(true, Put::Storage(d.reu_addr, seen.bus))
     }
 
     #[tactic(auto, unfolding(crate::specs::TickDma::swap_write))]
     fn swap_write(self, d: DmaState, ba_low: bool) -> TickAnswer
         ensures { result ≡ swap_write self d ba_low }
     {
-        let addr = d.c64_addr;
-        let put = Put::Bus(addr, d.latch);
-        self.advance(d, false, ba_low, put)
+        self.advance(d, false, ba_low, Put::Bus(d.c64_addr, d.latch))
     }
 
     #[tactic(auto, unfolding(crate::specs::TickDma::tick_swap))]
@@ -126,9 +109,7 @@ impl Reu {
     fn with_error(mut self, error: bool) -> Reu
         ensures { result ≡ with_error self error }
     {
-        let regs = self.regs;
-        let shown = marked(regs, STATUS_VERIFY_ERROR, error);
-        self.regs = shown;
+        self.regs = marked(self.regs, STATUS_VERIFY_ERROR, error);
         self
     }
 
@@ -137,31 +118,32 @@ impl Reu {
         ensures { result ≡ tick_verify self d seen ba_low }
     {
         let error = seen.bus != seen.storage;
-        let put = Put::Nothing;
-        let reu = self.with_error(error);
-        reu.advance(d, error, ba_low, put)
+        self.with_error(error)
+            .advance(d, error, ba_low, Put::Nothing)
     }
 
     #[tactic(auto, unfolding(crate::specs::TickDma::tick_refresh))]
     fn tick_refresh(self, d: DmaState, seen: Seen, cycle: u64) -> TickAnswer
         ensures { result ≡ tick_refresh self d seen cycle }
     {
-        let addr = d.reu_addr;
-        let put = Put::Storage(addr, seen.bus);
-        let mut next = d;
-        next.read_clock_odd = cycle & 1 != 0;
-        let mut open = self;
-        open.swap_refresh = false;
-        open.running(next).quiet_tick(true, put)
+        let next = DmaState {
+            read_clock_odd: cycle & 1 != 0,
+            ..d
+        };
+        let open = Reu {
+            swap_refresh: false,
+            ..self
+        };
+        open.running(next)
+            .quiet_tick(true, Put::Storage(d.reu_addr, seen.bus))
     }
 
     #[tactic(auto, unfolding(crate::specs::TickDma::tick_tail))]
     fn tick_tail(self, d: DmaState, seen: Seen) -> TickAnswer
         ensures { result ≡ tick_tail self d seen }
     {
-        let error = seen.bus != seen.storage;
-        let put = Put::Nothing;
-        self.finish_dma(d, !error).quiet_tick(false, put)
+        self.finish_dma(d, seen.bus == seen.storage)
+            .quiet_tick(false, Put::Nothing)
     }
 
     #[tactic(auto, unfolding(crate::specs::TickDma::tick_by_type))]
@@ -175,11 +157,10 @@ impl Reu {
     ) -> TickAnswer
         ensures { result ≡ tick_by_type kind self d seen cycle ba_low }
     {
-        let phase = d.swap_phase;
         match kind {
             TransferType::Store => self.tick_store(d, seen, ba_low),
             TransferType::Recall => self.tick_recall(d, seen, ba_low),
-            TransferType::Swap => self.tick_swap(phase, d, seen, cycle, ba_low),
+            TransferType::Swap => self.tick_swap(d.swap_phase, d, seen, cycle, ba_low),
             TransferType::Verify => self.tick_verify(d, seen, ba_low),
         }
     }
@@ -194,52 +175,41 @@ impl Reu {
         if d.verify_tail {
             return self.tick_tail(d, seen);
         }
-        let kind = d.transfer_type;
-        self.tick_by_type(kind, d, seen, cycle, ba_low)
+        self.tick_by_type(d.transfer_type, d, seen, cycle, ba_low)
     }
 
+    // A command needs storage: without it it is dropped.
     #[tactic(auto, unfolding(crate::specs::TickDma::tick_of))]
-    fn tick_of(self, dma: Dma, seen: Seen, cycle: u64, ba_low: bool) -> TickAnswer
-        ensures { result ≡ tick_of dma self seen cycle ba_low }
+    fn tick_of(self, d: DmaState, seen: Seen, cycle: u64, ba_low: bool) -> TickAnswer
+        ensures { result ≡ tick_of (Some d) self seen cycle ba_low }
     {
-        let put = Put::Nothing;
-        match dma {
-            Dma::Idle => self.quiet_tick(false, put),
-            Dma::Running(d) => {
-                if self.attached {
-                    self.tick_running(d, seen, cycle, ba_low)
-                } else {
-                    let idle = Dma::Idle;
-                    self.with_dma(idle).quiet_tick(false, put)
-                }
-            }
+        if self.attached {
+            self.tick_running(d, seen, cycle, ba_low)
+        } else {
+            self.stopped().quiet_tick(false, Put::Nothing)
         }
     }
 
     // One granted cycle advances one phase.
-    #[tactic(auto, unfolding(crate::specs::TickDma::tick_dma))]
+    #[tactic(auto, unfolding(crate::specs::TickDma::tick_dma, crate::specs::TickDma::tick_of))]
     pub(crate) fn tick(
         self,
         bus: &mut [u8],
         storage: &mut [u8],
         cycle: u64,
         ba_low: bool,
-    ) -> StepAnswer
-        ensures { (result, bus.new, storage.new) ≡ tick_dma self bus.old storage.old cycle ba_low }
+    ) -> Answered<Step>
+        ensures { (step_of result, bus.new, storage.new) ≡ tick_dma self bus.old storage.old cycle ba_low }
     {
-        let dma = self.dma;
-        let seen = dma.seen(self.size, bus, storage);
-        let ticked = self.tick_of(dma, seen, cycle, ba_low);
-        let put = ticked.put;
-        let passed = ticked.passed;
-        let reu = ticked.reu;
-        put.to_bus(bus);
-        put.to_storage(self.size, storage);
-        StepAnswer {
-            refusal: ACCEPTED,
+        let ticked = match self.dma {
+            None => self.quiet_tick(false, Put::Nothing),
+            Some(d) => self.tick_of(d, d.seen(self.size, bus, storage), cycle, ba_low),
+        };
+        ticked.put.to_bus(bus);
+        ticked.put.to_storage(self.size, storage);
+        ticked.reu.answered(Step {
             flag: ticked.flag,
-            passed,
-            reu,
-        }
+            passed: ticked.passed,
+        })
     }
 }

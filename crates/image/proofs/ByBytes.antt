@@ -9,8 +9,8 @@ use lib.Seq.{sets}
 use borrow.Author.Tests.{eq-eqb, ne_eqb}
 use Rattle.transfer.specs.Constants.{register_count}
 use Rattle.controller.specs.declared.reu.Reu.{Reu}
-use Rattle.transfer.specs.declared.dma.Dma.{Dma}
-use Rattle.transfer.specs.declared.dma.Dma.TheVariants.{Idle, Running}
+use Rattle.std.specs.Prelude.{Option}
+use Rattle.std.specs.Prelude.{None, Some}
 use Rattle.image.specs.Radix.{parted, below}
 use Rattle.image.specs.Fields.{radices, values, laid, lifted}
 use Rattle.image.specs.Layout.{fields, image_size, at, shadow_c64, shadow_exp, shadow_length, flags, more_flags, delay, transfer, kind, granted_field, place_of, flags_of, flag_bits, more_number, present, transfer_fields, transfer_numbers, other_with, pack_image, transfer_of, dma_in}
@@ -19,6 +19,7 @@ use Rattle.image.specs.Open.{all_zero, bytes_ok}
 use Rattle.image.proofs.Fields.{needed, needed_are, all_true, lifted_below}
 use Rattle.image.specs.Inner.{gets}
 use Rattle.image.proofs.Gets.{gets_slice, gets_all}
+use Rattle.transfer.specs.declared.dma.DmaState.{DmaState}
 
 module _ (s : List ℕ) (long : length s ≡ image_size) where
   -- the same bytes, written out
@@ -37,11 +38,8 @@ module _ (s : List ℕ) (long : length s ≡ image_size) where
   pub registers_are : take register_count (lifted fields s) ≡ take register_count s
   registers_are = ap (λ (l : List ℕ). take register_count (lifted fields l)) (sym listed) ∙ gets_slice s 0 register_count (omega arith)
 
-  pub dma_none : at s (place_of transfer) ≡ 0 → dma_in (lifted fields s) ≡ Idle
-  dma_none z = ap (λ (t : Bool). cond t Idle (Running (transfer_of (lifted fields s)))) (eq-eqb _ 0 (transfer_byte_lem ∙ z))
-
-  pub dma_some : (at s (place_of transfer) ≡ 0 → ⊥) → dma_in (lifted fields s) ≡ Running (transfer_of (lifted fields s))
-  dma_some z = ap (λ (t : Bool). cond t Idle (Running (transfer_of (lifted fields s)))) (ne_eqb _ 0 (λ e. z (sym transfer_byte_lem ∙ e)))
+  pub dma_none : at s (place_of transfer) ≡ 0 → dma_in (lifted fields s) ≡ None
+  dma_none z = ap (λ (t : Bool). cond t None (Some (transfer_of (lifted fields s)))) (eq-eqb _ 0 (transfer_byte_lem ∙ z))
 
   -- the ranges by the tests that bytes need
   pub ranges_are : ((i : ℕ) → get_or s i 0 < 256) → below (values fields) (lifted fields s) ≡ all_true (needed fields (lifted fields (gets 0 image_size s)))
@@ -72,7 +70,7 @@ abbrev pub stored : ℕ → List ℕ → ℕ → List ℕ
 stored k l n = sets l (place_of k) (parted (radices (place_of (suc k) - place_of k)) n)
 
 module _ (r : Reu) where
-  abbrev laid_over : Dma → List ℕ → List ℕ → List ℕ
+  abbrev laid_over : Option DmaState → List ℕ → List ℕ → List ℕ
   laid_over m regs out =
       let l1 : List ℕ = stored shadow_c64 (take (length regs) regs ++ drop (length regs) out) r.shadow_c64_addr in
       let l2 : List ℕ = stored shadow_length (stored shadow_exp l1 r.shadow_reu_addr) r.shadow_len in
@@ -80,17 +78,17 @@ module _ (r : Reu) where
       let l4 : List ℕ = stored transfer (stored delay l3 r.swap_read_delay) (present m) in
       stored granted_field (sets l4 (place_of kind) (laid transfer_part (transfer_numbers m))) r.granted_cycles
 
-  abbrev laid_down : Dma → List ℕ → List ℕ
+  abbrev laid_down : Option DmaState → List ℕ → List ℕ
   laid_down m regs = laid fields (regs ++ other_with r m)
 
   -- of lists that are written out both compute
-  same : (m : Dma) (regs out : List ℕ) → laid_over m (gets 0 register_count regs) (gets 0 image_size out) ≡ laid_down m (gets 0 register_count regs)
-  same Idle regs out = refl
-  same (Running d) regs out = refl
+  same : (m : Option DmaState) (regs out : List ℕ) → laid_over m (gets 0 register_count regs) (gets 0 image_size out) ≡ laid_down m (gets 0 register_count regs)
+  same None regs out = refl
+  same (Some d) regs out = refl
 
-  size_of : (m : Dma) (regs : List ℕ) → length (laid_down m (gets 0 register_count regs)) ≡ image_size
-  size_of Idle regs = refl
-  size_of (Running d) regs = refl
+  size_of : (m : Option DmaState) (regs : List ℕ) → length (laid_down m (gets 0 register_count regs)) ≡ image_size
+  size_of None regs = refl
+  size_of (Some d) regs = refl
 
   abbrev pub over : List ℕ → List ℕ
   over out = laid_over r.dma r.regs out
@@ -104,8 +102,3 @@ module _ (r : Reu) where
     over_is =
         (λ i. laid_over r.dma (sym written i) (sym (gets_all out image_size ho) i)) ∙ same r.dma r.regs out
         ∙ ap (laid_down r.dma) written
-
-    pub over_long : length (over out) ≡ length out
-    unfolding pack_image
-    over_long =
-        ap length over_is ∙ sym (ap (λ (l : List ℕ). length (laid_down r.dma l)) written) ∙ size_of r.dma r.regs ∙ sym ho

@@ -1,5 +1,6 @@
 -- Flags in a number: each comes back, and so does the number.
-use mathlib.Core.Path.{◌≡◌, sym, ap, ◌∙◌}
+use mathlib.Core.Path.{◌≡◌, refl, sym, ap, ◌∙◌}
+use mir.Val.{bool_byte}
 use mathlib.Core.Bool.{Bool, true, false}
 use mathlib.Core.List.{List, [], ◌∷◌, map}
 use Prim.Native.Nat.{ℕ, zero, suc, ◌/◌, ◌%◌, ◌^◌, ◌≤◌, ◌<◌}
@@ -13,6 +14,11 @@ use Rattle.transfer.proofs.Bits.{bit_div, bit_digit}
 use Rattle.image.specs.Layout.{flags_of}
 use Rattle.image.specs.Radix.{product}
 use Rattle.image.proofs.Radix.{Below, joined_below}
+
+-- the library's number of a truth value is that bit
+pub byte_is_bit : (b : Bool) → bool_byte b ≡ bit_of b
+byte_is_bit true = refl
+byte_is_bit false = refl
 
 bit_le : (b : Bool) → bit_of b ≤ 1
 bit_le true = omega arith

@@ -1,10 +1,10 @@
 pub mod Radix
 pub mod Fields
 pub mod Gets
+pub mod Numbers
 pub mod Flags
 pub mod Opening
 pub mod ByBytes
-pub mod Bytes
 pub mod Remaining
 pub mod Size
 pub mod Packed

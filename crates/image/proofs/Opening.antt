@@ -10,7 +10,7 @@ use borrow.Author.Tests.{eq-eqb, ne_eqb, eqb-true}
 use Rattle.controller.specs.declared.reu.Reu.{Reu}
 use Rattle.controller.specs.Enable.{new_reu}
 use Rattle.controller.specs.Refusals.{well_formed, checked}
-use Rattle.image.specs.declared.Opened.{Opened}
+use Rattle.image.specs.Open.{Opened}
 use Rattle.image.specs.Layout.{image_size, pack_image, reu_at}
 use Rattle.image.specs.Open.{image_ok, open_image, store_image}
 
@@ -72,7 +72,3 @@ module _ (u : Reu) (s : List ℕ) where
     pub store_good : well_formed u ≡ true → store_image u s ≡ (0, pack_image u)
     unfolding checked
     store_good e = stored true true (eq-eqb (length s) image_size h) e
-
-    pub store_bad : well_formed u ≡ false → store_image u s ≡ (2, s)
-    unfolding checked
-    store_bad e = stored true false (eq-eqb (length s) image_size h) e

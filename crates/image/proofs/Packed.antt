@@ -8,8 +8,8 @@ use lib.ListN.{length, get_or, take, drop, replicate}
 use lib.Dec.{eqb}
 use Rattle.controller.specs.declared.reu.Reu.{Reu}
 use Rattle.transfer.specs.declared.dma.DmaState.{DmaState}
-use Rattle.transfer.specs.declared.dma.Dma.{Dma}
-use Rattle.transfer.specs.declared.dma.Dma.TheVariants.{Idle, Running}
+use Rattle.std.specs.Prelude.{Option}
+use Rattle.std.specs.Prelude.{None, Some}
 use Rattle.transfer.specs.declared.dma.TransferType.{TransferType}
 use Rattle.transfer.specs.declared.dma.TransferType.TheVariants.{Store, Recall, Swap, Verify}
 use Rattle.transfer.specs.declared.dma.SwapPhase.{SwapPhase}
@@ -63,10 +63,10 @@ phase_below ReadC64 = omega arith
 phase_below WriteC64 = omega arith
 
 module _ (r : Reu) (typed : Typed r) (ok : well_formed r ≡ true) where
-  below_with : (m : Dma) → DmaTyped m → InRangeDma m → Below (drop register_count (values fields)) (other_with r m)
-  below_with Idle h s =
+  below_with : (m : Option DmaState) → DmaTyped m → InRangeDma m → Below (drop register_count (values fields)) (other_with r m)
+  below_with None h s =
       omega (arith, typed.c64_fits, well_shadow r ok, typed.len_fits, flags_below (flag_bits r), flags_below (more_bits r), code_most r.size, well_delay r ok, typed.granted_fits)
-  below_with (Running d) h s =
+  below_with (Some d) h s =
       omega (arith, typed.c64_fits, well_shadow r ok, typed.len_fits, flags_below (flag_bits r), flags_below (more_bits r), code_most r.size, well_delay r ok, type_below d.transfer_type, phase_below d.swap_phase, h.0, h.1, s.addr, s.high, flags_below (option_bits d), typed.granted_fits)
 
   numbers_below : Below (values fields) (numbers_of r)
@@ -103,7 +103,7 @@ all_below (x ∷ l) h (suc j) = all_below l h.1 j
 -- ---- the controller of its numbers is the controller
 
 -- the transfer of its numbers, behind the other fields and before the count
-transfer_back : (d : DmaState) (g : ℕ) → InRange d → transfer_of (replicate kind 0 ++ (transfer_numbers (Running d) ++ (g ∷ []))) ≡ d
+transfer_back : (d : DmaState) (g : ℕ) → InRange d → transfer_of (replicate kind 0 ++ (transfer_numbers (Some d) ++ (g ∷ []))) ≡ d
 transfer_back d g s = λ i. record {
   transfer_type = type_back d.transfer_type i;
   swap_phase = phase_back d.swap_phase i;
@@ -119,17 +119,17 @@ transfer_back d g s = λ i. record {
   verify_tail = flag_back (option_bits d) 5 (omega arith) i;
 }
 
-dma_back : (m : Dma) (g : ℕ) → InRangeDma m → cond (eqb (present m) 0) Idle (Running (transfer_of (replicate kind 0 ++ (transfer_numbers m ++ (g ∷ []))))) ≡ m
-dma_back Idle g s = refl
-dma_back (Running d) g s = ap Running (transfer_back d g s)
+dma_back : (m : Option DmaState) (g : ℕ) → InRangeDma m → cond (eqb (present m) 0) None (Some (transfer_of (replicate kind 0 ++ (transfer_numbers m ++ (g ∷ []))))) ≡ m
+dma_back None g s = refl
+dma_back (Some d) g s = ap Some (transfer_back d g s)
 
-granted_back : (m : Dma) (g : ℕ) → at (replicate kind 0 ++ (transfer_numbers m ++ (g ∷ []))) granted_field ≡ g
-granted_back Idle g = refl
-granted_back (Running d) g = refl
+granted_back : (m : Option DmaState) (g : ℕ) → at (replicate kind 0 ++ (transfer_numbers m ++ (g ∷ []))) granted_field ≡ g
+granted_back None g = refl
+granted_back (Some d) g = refl
 
-idle_good : (m : Dma) (g : ℕ) → not (eqb (present m) 0) || all_zero (take transfer_fields (transfer_numbers m ++ (g ∷ []))) ≡ true
-idle_good Idle g = refl
-idle_good (Running d) g = refl
+idle_good : (m : Option DmaState) (g : ℕ) → not (eqb (present m) 0) || all_zero (take transfer_fields (transfer_numbers m ++ (g ∷ []))) ≡ true
+idle_good None g = refl
+idle_good (Some d) g = refl
 
 module _ (r : Reu) where
   abbrev listed : Reu

@@ -9,8 +9,8 @@ use lib.Dec.{eqb, leb}
 use native.Mathlib.Omega.{arith}
 use Rattle.controller.specs.declared.reu.Reu.{Reu}
 use Rattle.transfer.specs.declared.dma.DmaState.{DmaState}
-use Rattle.transfer.specs.declared.dma.Dma.{Dma}
-use Rattle.transfer.specs.declared.dma.Dma.TheVariants.{Idle, Running}
+use Rattle.std.specs.Prelude.{Option}
+use Rattle.std.specs.Prelude.{None, Some}
 use Rattle.transfer.specs.declared.dma.TransferType.{TransferType}
 use Rattle.transfer.specs.declared.dma.TransferType.TheVariants.{Swap, Verify}
 use Rattle.transfer.specs.declared.dma.SwapPhase.{SwapPhase}
@@ -139,9 +139,9 @@ abbrev pub SoundTransfer : Bool → DmaState → Type 0
 SoundTransfer attached d =
     TransferFields attached d.transfer_type d.swap_phase d.c64_addr.0 d.reu_addr.0 d.remaining d.latch d.verify_tail
 
-abbrev pub SoundDma : Bool → Dma → Type 0
-SoundDma attached Idle = Unit {0}
-SoundDma attached (Running d) = SoundTransfer attached d
+abbrev pub SoundDma : Bool → Option DmaState → Type 0
+SoundDma attached None = Unit {0}
+SoundDma attached (Some d) = SoundTransfer attached d
 
 -- another phase, another latch, another tail
 pub with_step_lem : {a : Bool} {k : TransferType} {p q : SwapPhase} {c e n l v : ℕ} {t r : Bool} → TransferFields a k p c e n l t → v < 256
@@ -152,7 +152,7 @@ with_step_lem h v p t =
 -- ---- the controller
 
 -- the registers; the shadows; attached, the delay, the transfer; the count of granted cycles; the size
-pub record SoundFields (r : List ℕ) (c e n : ℕ) (a : Bool) (w : ℕ) (d : Dma) (g z : ℕ) : Type 0 where
+pub record SoundFields (r : List ℕ) (c e n : ℕ) (a : Bool) (w : ℕ) (d : Option DmaState) (g z : ℕ) : Type 0 where
   pub regs : SoundRegs (chip_mark z) r
   pub c64 : c < 65536
   pub exp : e < 16777216
@@ -167,7 +167,7 @@ Sound u =
     SoundFields u.regs u.shadow_c64_addr u.shadow_reu_addr u.shadow_len u.attached u.swap_read_delay u.dma u.granted_cycles u.size
 
 -- one of them replaced; a transfer with whether the storage is attached; the size with the registers
-module _ {r : List ℕ} {c e n : ℕ} {a : Bool} {w : ℕ} {d : Dma} {g z : ℕ} (s : SoundFields r c e n a w d g z) where
+module _ {r : List ℕ} {c e n : ℕ} {a : Bool} {w : ℕ} {d : Option DmaState} {g z : ℕ} (s : SoundFields r c e n a w d g z) where
   pub with_regs_lem : {l : List ℕ} → SoundRegs (chip_mark z) l → SoundFields l c e n a w d g z
   with_regs_lem h = record { regs = h; c64 = s.c64; exp = s.exp; len = s.len; delay = s.delay; dma = s.dma; granted = s.granted; size = s.size }
 
@@ -177,7 +177,7 @@ module _ {r : List ℕ} {c e n : ℕ} {a : Bool} {w : ℕ} {d : Dma} {g z : ℕ}
   pub with_delay_lem : {v : ℕ} → v < 3 → SoundFields r c e n a v d g z
   with_delay_lem h = record { regs = s.regs; c64 = s.c64; exp = s.exp; len = s.len; delay = h; dma = s.dma; granted = s.granted; size = s.size }
 
-  pub with_dma_lem : {b : Bool} {x : Dma} → SoundDma b x → SoundFields r c e n b w x g z
+  pub with_dma_lem : {b : Bool} {x : Option DmaState} → SoundDma b x → SoundFields r c e n b w x g z
   with_dma_lem h = record { regs = s.regs; c64 = s.c64; exp = s.exp; len = s.len; delay = s.delay; dma = h; granted = s.granted; size = s.size }
 
   pub with_granted_lem : {k : ℕ} → k < 4294967296 → SoundFields r c e n a w d k z

@@ -9,12 +9,12 @@ use lib.Dec.{eqb, leb, ltb}
 use native.Mathlib.Omega.{arith}
 use borrow.Author.Tests.{eqb-false, leb-true}
 use Rattle.controller.specs.declared.reu.Reu.{Reu}
-use Rattle.controller.specs.declared.reu.ReadAnswer.{ReadAnswer}
+use Rattle.controller.specs.declared.reu.Answered.{Answered}
 use Rattle.controller.specs.declared.reu.BusAnswer.{BusAnswer}
 use Rattle.controller.specs.declared.reu.TickAnswer.{TickAnswer}
 use Rattle.transfer.specs.declared.dma.DmaState.{DmaState}
-use Rattle.transfer.specs.declared.dma.Dma.{Dma}
-use Rattle.transfer.specs.declared.dma.Dma.TheVariants.{Idle, Running}
+use Rattle.std.specs.Prelude.{Option}
+use Rattle.std.specs.Prelude.{None, Some}
 use Rattle.transfer.specs.declared.dma.TransferType.{TransferType}
 use Rattle.transfer.specs.declared.dma.TransferType.TheVariants.{Store, Recall, Swap, Verify}
 use Rattle.transfer.specs.declared.dma.SwapPhase.{SwapPhase}
@@ -55,8 +55,8 @@ use Rattle.image.proofs.Sound.{SoundRegs, fresh_regs, and_byte, set_each, store,
 pub sound_read : (u : Reu) (a : ℕ) → Sound u → Sound (read_register u a).reu
 unfolding read_register
 sound_read u a s =
-    by_test (λ (r : ReadAnswer). Sound r.reu) (ltb (bit_and a 31) 11) _ _
-    (λ _. by_test (λ (r : ReadAnswer). Sound r.reu) (eqb (bit_and a 31) 0) _ _
+    by_test (λ (r : Answered ℕ). Sound r.reu) (ltb (bit_and a 31) 11) _ _
+    (λ _. by_test (λ (r : Answered ℕ). Sound r.reu) (eqb (bit_and a 31) 0) _ _
     (λ _. with_regs_lem s (store 0 s.regs (cleared_fits 31 refl (s.regs.fits 0))))
     (λ _. s))
     (λ _. s)
@@ -143,9 +143,9 @@ pub sound_size : (u : Reu) (size : ℕ) → Sound u → is_size size ≡ true �
 unfolding set_size
 sound_size u size s h = with_size_lem s size h
 
-attach : (a : Bool) (d : Dma) → SoundDma a d → SoundDma true d
-attach a Idle h = tt
-attach a (Running d) h =
+attach : (a : Bool) (d : Option DmaState) → SoundDma a d → SoundDma true d
+attach a None h = tt
+attach a (Some d) h =
     record { present = refl; c64 = h.c64; exp = h.exp; low = h.low; high = h.high; latch = h.latch; phase = h.phase; tail = h.tail }
 
 pub sound_switch : (u : Reu) (s : List ℕ) (e : Bool) → Sound u → Sound (set_enabled u s e).0
@@ -175,9 +175,9 @@ record SoundTick (t : TickAnswer) : Type 0 where
 tick : {t : TickAnswer} → Sound t.reu → FitsPut t.put → SoundTick t
 tick s p = record { sound = s; put = p }
 
-again : (a : Bool) (d : Dma) → SoundDma a d → SoundDma a (read_again d) × FitsPut (restored d)
-again a Idle h = (tt, tt)
-again a (Running d) h = (with_step_lem h h.latch refl h.tail, h.latch)
+again : (a : Bool) (d : Option DmaState) → SoundDma a d → SoundDma a (read_again d) × FitsPut (restored d)
+again a None h = (tt, tt)
+again a (Some d) h = (with_step_lem h h.latch refl h.tail, h.latch)
 
 module _ (u : Reu) (s : Sound u) where
   on_fall : (late : Bool) → SoundGrant (fall u late)
@@ -232,7 +232,7 @@ sound_finish : (u : Reu) (d : DmaState) (done : Bool) → Sound u → Sound (fin
 unfolding finish_dma
 sound_finish u d done s =
     let l : List ℕ = autoloaded (finished u.regs done) d.autoload u.shadow_c64_addr u.shadow_reu_addr u.shadow_len in
-    sound_irq (with_dma (with_regs u l) Idle)
+    sound_irq (with_dma (with_regs u l) None)
     (with_dma_lem
     (with_regs_lem s
     (autoloaded_regs d.autoload u.shadow_c64_addr u.shadow_reu_addr u.shadow_len
@@ -300,10 +300,10 @@ module _ (u : Reu) (d : DmaState) (b : Seen) (s : Sound u) (h : SoundTransfer u.
       (λ _. by_test SoundTick d.verify_tail _ _ (λ _. tick (sound_finish u d (not (differs b)) s) tt)
       (λ e. sound_by_type e cycle low d.transfer_type refl))
 
-sound_of_dma : (x : Dma) (u : Reu) (b : Seen) (cycle : ℕ) (low : Bool) → Sound u → SoundDma u.attached x → FitsSeen b → SoundTick (tick_of x u b cycle low)
+sound_of_dma : (x : Option DmaState) (u : Reu) (b : Seen) (cycle : ℕ) (low : Bool) → Sound u → SoundDma u.attached x → FitsSeen b → SoundTick (tick_of x u b cycle low)
 unfolding tick_of
-sound_of_dma Idle u b cycle low s h see = tick s tt
-sound_of_dma (Running d) u b cycle low s h see =
+sound_of_dma None u b cycle low s h see = tick s tt
+sound_of_dma (Some d) u b cycle low s h see =
     by_test SoundTick u.attached _ _ (λ _. sound_running u d b s h see cycle low) (λ _. tick (with_dma_lem s tt) tt)
 
 -- ---- on a bus and a storage
@@ -351,9 +351,9 @@ module _ (P Q : List ℕ → Type 0) (p : Memory P) (q : Memory Q) where
   put_storage_lem size (Bus a v) s h b = b
   put_storage_lem size (Storage a v) s h b = q.stored s _ v h b
 
-  seen_fits : (size : ℕ) (x : Dma) (m s : List ℕ) → P m → Q s → FitsSeen (seen_by size x m s)
-  seen_fits size Idle m s bm bs = omega arith
-  seen_fits size (Running d) m s bm bs = ((p.bytes m bm).below _, (q.bytes s bs).below _)
+  seen_fits : (size : ℕ) (x : Option DmaState) (m s : List ℕ) → P m → Q s → FitsSeen (seen_by size x m s)
+  seen_fits size None m s bm bs = omega arith
+  seen_fits size (Some d) m s bm bs = ((p.bytes m bm).below _, (q.bytes s bs).below _)
 
   module _ (u : Reu) (m s : List ℕ) (h : SoundState P Q u m s) where
     pub sound_enabled : (e : Bool) → SoundState P Q (set_enabled u s e).0 m (set_enabled u s e).1

@@ -8,11 +8,11 @@ use lib.ListN.{length, get_or, take, drop, replicate, take-append-drop}
 use lib.Seq.{length-take-le}
 use lib.Dec.{eqb}
 use borrow.Author.Tests.{eqb-true, eqb-false}
-use Rattle.transfer.specs.declared.dma.Dma.{Dma}
-use Rattle.transfer.specs.declared.dma.Dma.TheVariants.{Idle, Running}
+use Rattle.std.specs.Prelude.{Option}
+use Rattle.std.specs.Prelude.{None, Some}
 use Rattle.transfer.specs.Dma.{type_number, type_of}
 use Rattle.controller.specs.Refusals.{well_formed}
-use Rattle.image.specs.declared.Opened.{Opened}
+use Rattle.image.specs.Open.{Opened}
 use Rattle.image.specs.Radix.{below}
 use Rattle.image.specs.Fields.{radices, values, laid, lifted}
 use Rattle.transfer.specs.Constants.{register_count}
@@ -27,6 +27,7 @@ use Rattle.image.proofs.Gets.{gets_slice, gets_rest}
 use Rattle.image.proofs.Remaining.{two_bytes_back}
 use Rattle.image.proofs.Size.{more_back}
 use Rattle.image.proofs.Opening.{opened_is, opened_long, opened_ok}
+use Rattle.transfer.specs.declared.dma.DmaState.{DmaState}
 
 type_number_back : (n : ℕ) → n < 4 → type_number (type_of n) ≡ n
 unfolding type_of
@@ -56,15 +57,15 @@ module _ (ns : List ℕ) (long : length ns ≡ count) (fit : Below (values field
   under k h = below_at (values fields) ns fit k h
 
   -- the transfer's numbers, and whether there is one
-  abbrev Tail : Dma → Type 0
+  abbrev Tail : Option DmaState → Type 0
   Tail m = (present m ≡ at ns transfer) × (transfer_numbers m ≡ gets kind transfer_fields ns)
 
-  idle_tail : at ns transfer ≡ 0 → all_zero (take transfer_fields (drop kind ns)) ≡ true → Tail Idle
+  idle_tail : at ns transfer ≡ 0 → all_zero (take transfer_fields (drop kind ns)) ≡ true → Tail None
   idle_tail none zeros =
       let t : gets kind transfer_fields ns ≡ take transfer_fields (drop kind ns) = gets_slice ns kind transfer_fields (omega arith) in
       (sym none, sym (zeros_are (gets kind transfer_fields ns) (ap all_zero t ∙ zeros)))
 
-  moving_tail : (at ns transfer ≡ 0 → ⊥) → Tail (Running (transfer_of ns))
+  moving_tail : (at ns transfer ≡ 0 → ⊥) → Tail (Some (transfer_of ns))
   moving_tail some = (
     omega (arith, under transfer (omega arith), some),
     λ i. type_number_back (at ns kind) (under kind (omega arith)) i ∷ phase_number_back (at ns phase) (under phase (omega arith)) i
@@ -75,7 +76,7 @@ module _ (ns : List ℕ) (long : length ns ≡ count) (fit : Below (values field
   tail = go (eqb (at ns transfer) 0) refl idle
     where
       go : (t : Bool) → eqb (at ns transfer) 0 ≡ t → not t || all_zero (take transfer_fields (drop kind ns)) ≡ true
-          → Tail (cond t Idle (Running (transfer_of ns)))
+          → Tail (cond t None (Some (transfer_of ns)))
       go true e z = idle_tail (eqb-true _ _ e) z
       go false e z = moving_tail (eqb-false _ _ e)
 
@@ -90,7 +91,7 @@ module _ (ns : List ℕ) (long : length ns ≡ count) (fit : Below (values field
   dma_typed : DmaTyped (dma_in ns)
   dma_typed = go (eqb (at ns transfer) 0)
     where
-      go : (t : Bool) → DmaTyped (cond t Idle (Running (transfer_of ns)))
+      go : (t : Bool) → DmaTyped (cond t None (Some (transfer_of ns)))
       go true = tt
       go false = (under transfer_c64 (omega arith), under latch (omega arith))
 

@@ -9,8 +9,8 @@ use borrow.Author.Tests.{lt-ltb, ltb-true, le-leb, leb-true}
 use Rattle.controller.specs.declared.reu.Reu.{Reu}
 use Rattle.transfer.specs.declared.dma.DmaState.{DmaState}
 use Rattle.transfer.specs.declared.dma.TransferType.TheVariants.{Swap, Verify}
-use Rattle.transfer.specs.declared.dma.Dma.{Dma}
-use Rattle.transfer.specs.declared.dma.Dma.TheVariants.{Idle, Running}
+use Rattle.std.specs.Prelude.{Option}
+use Rattle.std.specs.Prelude.{None, Some}
 use Rattle.transfer.specs.Dma.{is_type, is_write_phase}
 use Rattle.controller.specs.Refusals.{well_formed}
 use Rattle.transfer.specs.Dma.{well_transfer, well_dma}
@@ -35,9 +35,9 @@ transfer_well a d h =
     let addr : ltb d.reu_addr.0 16777216 ≡ true = lt-ltb d.reu_addr.0 16777216 h.exp in
     λ i. h.present i && ((low i && high i) && (addr i && (h.phase i && h.tail i)))
 
-dma_well : (a : Bool) (x : Dma) → SoundDma a x → well_dma a x ≡ true
-dma_well a Idle h = refl
-dma_well a (Running d) h = transfer_well a d h
+dma_well : (a : Bool) (x : Option DmaState) → SoundDma a x → well_dma a x ≡ true
+dma_well a None h = refl
+dma_well a (Some d) h = transfer_well a d h
 
 same_beq : (a b : Bool) → a ≡ b → beq a b ≡ true
 same_beq a b e = ap (beq a) (sym e) ∙ self a
@@ -60,9 +60,9 @@ sound_well u s =
     let mark : beq (bit (reg u 0) version) (chip_mark u.size) ≡ true = same_beq _ _ ((s.regs.fits 0).mark refl) in
     λ i. delay i && (shadow i && (dma_well u.attached u.dma s.dma i && (s.size i && mark i)))
 
-dma_typed : (a : Bool) (x : Dma) → SoundDma a x → DmaTyped x
-dma_typed a Idle h = tt
-dma_typed a (Running d) h = (h.c64, h.latch)
+dma_typed : (a : Bool) (x : Option DmaState) → SoundDma a x → DmaTyped x
+dma_typed a None h = tt
+dma_typed a (Some d) h = (h.c64, h.latch)
 
 pub sound_typed : (u : Reu) → Sound u → Typed u
 sound_typed u s =
@@ -76,7 +76,7 @@ sound_typed u s =
     }
 
 -- the other way
-module _ (a : Bool) (d : DmaState) (h : DmaTyped (Running d)) (e : a && well_transfer d ≡ true) where
+module _ (a : Bool) (d : DmaState) (h : DmaTyped (Some d)) (e : a && well_transfer d ≡ true) where
   well : well_transfer d ≡ true
   well = snd a (well_transfer d) e
 
@@ -109,9 +109,9 @@ module _ (a : Bool) (d : DmaState) (h : DmaTyped (Running d)) (e : a && well_tra
         tail = snd (not (is_write_phase d.swap_phase) || is_type d.transfer_type Swap) _ kinds;
       }
 
-dma_sound : (a : Bool) (x : Dma) → DmaTyped x → well_dma a x ≡ true → SoundDma a x
-dma_sound a Idle h e = tt
-dma_sound a (Running d) h e = transfer_sound a d h e
+dma_sound : (a : Bool) (x : Option DmaState) → DmaTyped x → well_dma a x ≡ true → SoundDma a x
+dma_sound a None h e = tt
+dma_sound a (Some d) h e = transfer_sound a d h e
 
 -- the registers, with the mark of the size
 regs_fit : (u : Reu) → Typed u → well_formed u ≡ true → (i : ℕ) → FitsRegister (chip_mark u.size) i (reg u i)

@@ -3,8 +3,8 @@ use Rattle.controller.specs.Prelude.{ℕ, Bool, cond, List, [], eqb, get_or, len
 use Rattle.transfer.specs.declared.dma.SwapPhase.{SwapPhase}
 use Rattle.transfer.specs.declared.dma.SwapPhase.TheVariants.{ReadC64, WriteC64}
 use Rattle.transfer.specs.declared.dma.DmaState.{DmaState}
-use Rattle.transfer.specs.declared.dma.Dma.{Dma}
-use Rattle.transfer.specs.declared.dma.Dma.TheVariants.{Idle, Running}
+use Rattle.std.specs.Prelude.{Option}
+use Rattle.std.specs.Prelude.{None, Some}
 use Rattle.controller.specs.declared.reu.Reu.{Reu}
 use Rattle.std.specs.Prelude.{◌++◌, map, take, ◌+◌, ◌-◌, ◌*◌, ◌/◌, ◌%◌, ◌^◌, ◌∷◌}
 use Rattle.transfer.specs.Constants.{register_count, bus_size, expansion_limit, full_length}
@@ -102,9 +102,9 @@ phase_number ReadC64 = 0
 phase_number WriteC64 = 1
 
 -- "21 transfer present 0/1"
-abbrev pub present : Dma → ℕ
-present Idle = 0
-present (Running d) = 1
+abbrev pub present : Option DmaState → ℕ
+present None = 0
+present (Some d) = 1
 
 -- "18 from bit 0: enabled, interrupt, attached, armed, BA was high, recall repeat, terminal write, late fall"
 abbrev pub flag_bits : Reu → List Bool
@@ -137,14 +137,14 @@ abbrev pub remaining_number : ℕ → ℕ
 remaining_number n = n % full_length
 
 -- L3: "without a transfer 22-32 are 0"
-abbrev pub transfer_numbers : Dma → List ℕ
-transfer_numbers Idle = replicate transfer_fields 0
-transfer_numbers (Running d) =
+abbrev pub transfer_numbers : Option DmaState → List ℕ
+transfer_numbers None = replicate transfer_fields 0
+transfer_numbers (Some d) =
     type_number d.transfer_type ∷ phase_number d.swap_phase ∷ d.c64_addr.0 ∷ d.reu_addr.0
     ∷ remaining_number d.remaining ∷ d.latch ∷ flags_of (option_bits d) ∷ []
 
 -- the numbers behind the registers, of a controller that runs m
-abbrev pub other_with : Reu → Dma → List ℕ
+abbrev pub other_with : Reu → Option DmaState → List ℕ
 other_with r m =
     r.shadow_c64_addr ∷ r.shadow_reu_addr ∷ r.shadow_len ∷ flags_of (flag_bits r) ∷ more_number r ∷ r.swap_read_delay
     ∷ present m ∷ (transfer_numbers m ++ (r.granted_cycles ∷ []))
@@ -188,8 +188,8 @@ transfer_of ns = record {
   verify_tail = bit (at ns options) 5;
 }
 
-abbrev pub dma_in : List ℕ → Dma
-dma_in ns = cond (eqb (at ns transfer) 0) Idle (Running (transfer_of ns))
+abbrev pub dma_in : List ℕ → Option DmaState
+dma_in ns = cond (eqb (at ns transfer) 0) None (Some (transfer_of ns))
 
 abbrev pub controller_of : List ℕ → Reu
 controller_of ns = record {

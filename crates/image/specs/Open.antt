@@ -1,10 +1,11 @@
 -- When an image is refused, and what opening and storing one give.
-use Rattle.controller.specs.Prelude.{ℕ, Bool, true, not, List, [], eqb, length}
+use Rattle.controller.specs.Prelude.{ℕ, Bool, true, not, Result, Ok, Err, List, [], eqb, length}
+use Rattle.controller.specs.declared.refusals.Refusal.{Refusal}
+use Rattle.controller.specs.Answers.{refusal_number}
 use Rattle.std.specs.Prelude.{take, drop, ◌&&◌, ◌||◌, ◌∷◌}
 use Rattle.controller.specs.Enable.{new_reu}
 use Rattle.controller.specs.declared.reu.Reu.{Reu}
 use Rattle.controller.specs.Refusals.{well_formed, first_refusal, checked}
-use Rattle.image.specs.declared.Opened.{Opened}
 use Rattle.image.specs.Radix.{below}
 use Rattle.image.specs.Fields.{values, lifted}
 use Rattle.image.specs.Layout.{fields, image_size, transfer, kind, transfer_fields, at, pack_image, reu_at}
@@ -30,7 +31,16 @@ image_ok s = bytes_ok s && well_formed (reu_at s)
 abbrev pub open_refusal : List ℕ → ℕ
 open_refusal s = first_refusal ((eqb (length s) image_size, 1) ∷ (image_ok s, 2) ∷ [])
 
--- a refused image gives the new controller
+-- what opening gives: the refusal number, 0 if the image is accepted, and the controller
+pub record Opened : Type 0 where
+  pub refusal : ℕ
+  pub reu : Reu
+
+-- what the code hands back, in these terms: a refused image gives the new controller
+abbrev pub opened : Result Reu Refusal → Opened
+opened (Ok u) = record { refusal = 0; reu = u }
+opened (Err e) = record { refusal = refusal_number e; reu = new_reu }
+
 unfoldable pub open_image : List ℕ → Opened
 open_image s =
     checked (open_refusal s) (λ n. record { refusal = n; reu = new_reu }) (record { refusal = 0; reu = reu_at s })

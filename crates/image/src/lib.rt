@@ -2,64 +2,44 @@
 #![tactic(auto)]
 
 ghost use Rattle.std.specs.Prelude.{◌≡◌};
-ghost use Rattle.controller.specs.Enable.{new_reu};
-ghost use Rattle.image.specs.Open.{open_image, store_image};
+ghost use Rattle.controller.specs.Answers.{number_of};
+ghost use Rattle.image.specs.Open.{open_image, opened, store_image};
 
-use controller::Reu;
+use controller::{Refusal, Reu};
 use layout::IMAGE_BYTES;
 
 pub mod layout;
 mod pack;
 mod unpack;
 
-const ACCEPTED: u8 = 0;
-
-const REFUSED_LENGTH: u8 = 1;
-
-const REFUSED_FIELD: u8 = 2;
-
-// What opening an image gives: the refusal number, 0 if it is accepted, and the controller, a new one if it is not.
-#[derive(Clone, Copy)]
-pub struct Opened {
-    pub refusal: u8,
-    pub reu: Reu,
-}
-
-fn refused(refusal: u8) -> Opened
-    ensures { result ≡ record { refusal = refusal; reu = new_reu } }
+// The controller that an image holds.
+#[tactic(auto, unfolding(crate::specs::Open::open_image, crate::specs::Open::image_ok, controller::specs::Refusals::checked))]
+pub fn open(image: &[u8]) -> Result<Reu, Refusal>
+    ensures { opened result ≡ open_image image.now }
 {
-    let reu = Reu::new();
-    Opened { refusal, reu }
-}
-
-pub fn open(image: &[u8]) -> Opened
-    ensures { result ≡ open_image image.now }
-{
-    if image.len() != IMAGE_BYTES {
-        return refused(REFUSED_LENGTH);
-    }
-    let reu = unpack::controller_at(image);
-    let ok = unpack::bytes_ok(image);
+    let fields: &[u8; IMAGE_BYTES] = image.try_into().map_err(|_| Refusal::Length)?;
+    let reu = unpack::controller_at(fields);
+    let ok = unpack::bytes_ok(fields);
     if ok & reu.well_formed() {
-        return Opened {
-            refusal: ACCEPTED,
-            reu,
-        };
+        Ok(reu)
+    } else {
+        Err(Refusal::Field)
     }
-    refused(REFUSED_FIELD)
 }
 
 // Lays the image of a controller over a slice of an image's length. Refuses a slice of another length, and a controller that
 // opening would refuse: then the slice stays as it is.
-pub fn store(out: &mut [u8], reu: Reu) -> u8
-    ensures { (result, out.new) ≡ store_image reu out.old }
+#[tactic(auto, unfolding(crate::specs::Open::store_image, controller::specs::Refusals::checked))]
+pub fn store(out: &mut [u8], reu: Reu) -> Result<(), Refusal>
+    ensures { (number_of result, out.new) ≡ store_image reu out.old }
 {
     if out.len() != IMAGE_BYTES {
-        return REFUSED_LENGTH;
+        return Err(Refusal::Length);
     }
     if reu.well_formed() {
         pack::pack(out, reu);
-        return ACCEPTED;
+        Ok(())
+    } else {
+        Err(Refusal::Field)
     }
-    REFUSED_FIELD
 }

@@ -1,12 +1,11 @@
 // A controller laid down in an image, field by field.
-ghost use Rattle.std.specs.Prelude.{true, ◌≡◌, ◌-◌, ◌<◌, ◌≤◌, length, set};
+ghost use Rattle.std.specs.Prelude.{true, ◌≡◌, ◌+◌, ◌-◌, ◌<◌, ◌≤◌, length};
 ghost use Rattle.std.proofs.lemmas.List.Edits.{sets};
-ghost use Rattle.transfer.specs.Bytes.{bit_of};
 ghost use Rattle.controller.specs.Refusals.{well_formed};
 ghost use Rattle.image.specs.Radix.{parted, product};
 ghost use Rattle.controller.specs.Inner.{InRangeDma};
 ghost use Rattle.image.specs.Fields.{laid, radices};
-ghost use Rattle.image.specs.Layout.{flag_bits, flags_of, image_size, kind, more_number, option_bits, pack_image, phase_number, place_of, present, size_code, transfer_numbers};
+ghost use Rattle.image.specs.Layout.{flag_bits, flags_of, image_size, kind, more_number, option_bits, pack_image, place_of, size_code, transfer_numbers};
 ghost use Rattle.image.specs.Inner.{Room, transfer_part};
 
 use crate::layout::{
@@ -15,70 +14,34 @@ use crate::layout::{
 };
 use controller::Reu;
 use transfer::{
-    C64Address, Dma, DmaState, ExpansionAddress, FULL_64K_TRANSFER_LENGTH, SwapPhase, TransferType,
+    C64Address, DmaState, ExpansionAddress, FULL_64K_TRANSFER_LENGTH, SwapPhase, TransferType,
 };
 
 // ---- a number in the bytes from a place to before an end, the low byte first
 
-// A byte; past the slice's end nothing is written.
-fn put1(out: &mut [u8], place: usize, v: u8)
-    ensures { out.new ≡ set out.old place v }
-{
-    if place < out.len() {
-        out[place] = v;
-    }
-}
-
 fn put(out: &mut [u8], place: usize, end: usize, v: u32)
-    requires { v < product (radices (end - place)) }
+    requires place_le_end { place ≤ end }
+    requires end_bound { end ≤ place + 4 }
+    requires end_in_bounds { end ≤ length out.old }
+    requires fits { v < product (radices (end - place)) }
     ensures { out.new ≡ sets out.old place (parted (radices (end - place)) v) }
 {
-    let mut left = v;
-    let mut at = place;
-    while at < end {
-        put1(out, at, (left % 256) as u8);
-        left = left / 256;
-        at += 1;
-    }
+    out[place..end].copy_from_slice(&v.to_le_bytes()[..end - place]);
 }
 
 // ---- numbers of what is no number
-fn bit(b: bool) -> u8
-    ensures value { result ≡ bit_of b }
-    ensures upper_bound { result ≤ 1 }
-{
-    if b { 1 } else { 0 }
-}
-
-fn phase_number(p: SwapPhase) -> u8
-    ensures { result ≡ phase_number p }
-{
-    match p {
-        SwapPhase::ReadC64 => 0,
-        SwapPhase::WriteC64 => 1,
-    }
-}
-
-fn present_number(m: Dma) -> u8
-    ensures { result ≡ present m }
-{
-    match m {
-        Dma::Idle => 0,
-        Dma::Running(_) => 1,
-    }
-}
 
 fn flags(r: Reu) -> u8
     ensures { result ≡ flags_of (flag_bits r) }
 {
-    bit(r.enabled)
-        + 2 * bit(r.irq_pending)
-        + 4 * bit(r.attached)
-        + 8 * bit(r.waiting_ff00)
-        + 16 * bit(r.ba_was_high)
-        + 32 * bit(r.recall_repeat)
-        + 64 * bit(r.terminal_swap_write)
-        + 128 * bit(r.late_ba_fall)
+    u8::from(r.enabled)
+        + 2 * u8::from(r.irq_pending)
+        + 4 * u8::from(r.attached)
+        + 8 * u8::from(r.waiting_ff00)
+        + 16 * u8::from(r.ba_was_high)
+        + 32 * u8::from(r.recall_repeat)
+        + 64 * u8::from(r.terminal_swap_write)
+        + 128 * u8::from(r.late_ba_fall)
 }
 
 // 512, 256 or 128 KiB.
@@ -86,42 +49,38 @@ fn size_code(size: u32) -> u8
     ensures value { result ≡ size_code size }
     ensures upper_bound { result ≤ 2 }
 {
-    if size == 524_288 {
-        0
-    } else if size == 262_144 {
-        1
-    } else {
-        2
+    match size {
+        524_288 => 0,
+        262_144 => 1,
+        _ => 2,
     }
 }
 
 fn more_flags(r: Reu) -> u8
     ensures { result ≡ more_number r }
 {
-    bit(r.swap_refresh) + 2 * bit(r.swap_release_pending) + 4 * size_code(r.size)
+    u8::from(r.swap_refresh) + 2 * u8::from(r.swap_release_pending) + 4 * size_code(r.size)
 }
 
 fn options(d: DmaState) -> u8
     ensures { result ≡ flags_of (option_bits d) }
 {
-    bit(d.fix_c64)
-        + 2 * bit(d.fix_reu)
-        + 4 * bit(d.autoload)
-        + 8 * bit(d.first_byte)
-        + 16 * bit(d.read_clock_odd)
-        + 32 * bit(d.verify_tail)
+    u8::from(d.fix_c64)
+        + 2 * u8::from(d.fix_reu)
+        + 4 * u8::from(d.autoload)
+        + 8 * u8::from(d.first_byte)
+        + 16 * u8::from(d.read_clock_odd)
+        + 32 * u8::from(d.verify_tail)
 }
 
 // Without a transfer its fields are 0: those of this one are.
 fn zeros() -> DmaState
-    ensures result_value { transfer_numbers (Dma.Running result) ≡ transfer_numbers Dma.Idle }
+    ensures result_value { transfer_numbers (Some result) ≡ transfer_numbers None }
     ensures room { Room result }
 {
-    let kind = TransferType::Store;
-    let phase = SwapPhase::ReadC64;
     DmaState {
-        transfer_type: kind,
-        swap_phase: phase,
+        transfer_type: TransferType::Store,
+        swap_phase: SwapPhase::ReadC64,
         c64_addr: C64Address(0),
         reu_addr: ExpansionAddress(0),
         remaining: 0,
@@ -135,27 +94,33 @@ fn zeros() -> DmaState
     }
 }
 
-fn transfer_of(m: Dma) -> DmaState
+fn transfer_of(m: Option<DmaState>) -> DmaState
     requires { InRangeDma m }
-    ensures result_value { transfer_numbers (Dma.Running result) ≡ transfer_numbers m }
+    ensures result_value { transfer_numbers (Some result) ≡ transfer_numbers m }
     ensures room { Room result }
 {
-    match m {
-        Dma::Idle => zeros(),
-        Dma::Running(d) => d,
-    }
+    m.unwrap_or(zeros())
 }
 
 // ---- the fields at their places
 fn put_transfer(out: &mut [u8], d: DmaState)
-    requires { Room d }
-    ensures { out.new ≡ sets out.old (place_of kind) (laid transfer_part (transfer_numbers (Dma.Running d))) }
+    requires out_len { length out.old ≡ image_size }
+    requires room { Room d }
+    ensures { out.new ≡ sets out.old (place_of kind) (laid transfer_part (transfer_numbers (Some d))) }
 {
-    let kind = d.transfer_type;
-    let phase = d.swap_phase;
-    put(out, TYPE, PHASE, kind.number() as u32);
-    put(out, PHASE, TRANSFER_C64, phase_number(phase) as u32);
-    put(out, TRANSFER_C64, TRANSFER_EXPANSION, d.c64_addr.0 as u32);
+    put(out, TYPE, PHASE, u32::from(u8::from(d.transfer_type)));
+    put(
+        out,
+        PHASE,
+        TRANSFER_C64,
+        u32::from(d.swap_phase == SwapPhase::WriteC64),
+    );
+    put(
+        out,
+        TRANSFER_C64,
+        TRANSFER_EXPANSION,
+        u32::from(d.c64_addr.0),
+    );
     put(out, TRANSFER_EXPANSION, REMAINING, d.reu_addr.0);
     // Two bytes of 0 mean 65,536.
     put(
@@ -164,8 +129,8 @@ fn put_transfer(out: &mut [u8], d: DmaState)
         LATCH,
         d.remaining % FULL_64K_TRANSFER_LENGTH,
     );
-    put(out, LATCH, OPTIONS, d.latch as u32);
-    put(out, OPTIONS, GRANTED_CYCLES, options(d) as u32);
+    put(out, LATCH, OPTIONS, u32::from(d.latch));
+    put(out, OPTIONS, GRANTED_CYCLES, u32::from(options(d)));
 }
 
 // The image of a controller that opening would accept: a number that is too large would not fit its bytes.
@@ -174,21 +139,19 @@ pub(crate) fn pack(out: &mut [u8], reu: Reu)
     requires reu_value { well_formed reu ≡ true }
     ensures { out.new ≡ pack_image reu }
 {
-    let regs = reu.regs;
-    let dma = reu.dma;
-    out[..SHADOW_C64].copy_from_slice(&regs);
+    out[..SHADOW_C64].copy_from_slice(&reu.regs);
     put(
         out,
         SHADOW_C64,
         SHADOW_EXPANSION,
-        reu.shadow_c64_addr as u32,
+        u32::from(reu.shadow_c64_addr),
     );
     put(out, SHADOW_EXPANSION, SHADOW_LENGTH, reu.shadow_reu_addr);
-    put(out, SHADOW_LENGTH, FLAGS, reu.shadow_len as u32);
-    put(out, FLAGS, MORE_FLAGS, flags(reu) as u32);
-    put(out, MORE_FLAGS, DELAY, more_flags(reu) as u32);
-    put(out, DELAY, TRANSFER, reu.swap_read_delay as u32);
-    put(out, TRANSFER, TYPE, present_number(dma) as u32);
-    put_transfer(out, transfer_of(dma));
+    put(out, SHADOW_LENGTH, FLAGS, u32::from(reu.shadow_len));
+    put(out, FLAGS, MORE_FLAGS, u32::from(flags(reu)));
+    put(out, MORE_FLAGS, DELAY, u32::from(more_flags(reu)));
+    put(out, DELAY, TRANSFER, u32::from(reu.swap_read_delay));
+    put(out, TRANSFER, TYPE, u32::from(reu.dma.is_some()));
+    put_transfer(out, transfer_of(reu.dma));
     put(out, GRANTED_CYCLES, IMAGE_BYTES, reu.granted_cycles);
 }

@@ -8,32 +8,22 @@ ghost use Rattle.image.specs.Inner.{gets};
 ghost use Rattle.image.specs.Open.{all_zero, bytes_ok};
 
 use crate::layout;
+use crate::layout::IMAGE_BYTES;
 use controller::Reu;
-use regs::length_of;
-use transfer::{C64Address, Dma, DmaState, ExpansionAddress, SwapPhase, TransferType};
+use regs::{REGISTER_COUNT, length_of};
+use transfer::{C64Address, DmaState, ExpansionAddress, SwapPhase, TransferType};
 
 // ---- the number in the bytes from a place to before an end, the low byte first
-fn get(image: &[u8], place: usize, end: usize) -> u32
+fn get(image: &[u8; IMAGE_BYTES], place: usize, end: usize) -> u32
     requires place_le_end { place ≤ end }
     requires end_bound { end ≤ place + 4 }
-    requires end_in_bounds { end ≤ length image.now }
+    requires end_in_bounds { end ≤ image_size }
     ensures value { result ≡ joined (radices (end - place)) (gets place (end - place) image.now) }
     ensures upper_bound { result < product (radices (end - place)) }
 {
-    let mut v = 0;
-    let mut at = end;
-    while place < at {
-        at -= 1;
-        v = 256 * v + wide(image[at]);
-    }
-    v
-}
-
-fn wide(x: u8) -> u32
-    ensures value { result ≡ x }
-    ensures upper_bound { result < 256 }
-{
-    x as u32
+    let mut bytes = [0u8; 4];
+    bytes[..end - place].copy_from_slice(&image[place..end]);
+    u32::from_le_bytes(bytes)
 }
 
 fn phase_of(n: u8) -> SwapPhase
@@ -49,18 +39,15 @@ fn phase_of(n: u8) -> SwapPhase
 fn size_of(code: u8) -> u32
     ensures { result ≡ size_of code }
 {
-    if code == 0 {
-        524_288
-    } else if code == 1 {
-        262_144
-    } else {
-        131_072
+    match code {
+        0 => 524_288,
+        1 => 262_144,
+        _ => 131_072,
     }
 }
 
 // ---- the controller
-fn transfer_at(image: &[u8]) -> DmaState
-    requires { length image.now ≡ image_size }
+fn transfer_at(image: &[u8; IMAGE_BYTES]) -> DmaState
     ensures { result ≡ transfer_of (lifted fields image.now) }
 {
     let options = image[layout::OPTIONS];
@@ -85,38 +72,32 @@ fn transfer_at(image: &[u8]) -> DmaState
     }
 }
 
-fn dma_at(image: &[u8]) -> Dma
-    requires { length image.now ≡ image_size }
+fn dma_at(image: &[u8; IMAGE_BYTES]) -> Option<DmaState>
     ensures { result ≡ dma_in (lifted fields image.now) }
 {
     if image[layout::TRANSFER] == 0 {
-        Dma::Idle
+        None
     } else {
-        Dma::Running(transfer_at(image))
+        Some(transfer_at(image))
     }
 }
 
 // The registers come first, each at its number.
-fn registers_at(image: &[u8]) -> [u8; 11]
-    requires { length image.now ≡ image_size }
+fn registers_at(image: &[u8; IMAGE_BYTES]) -> [u8; REGISTER_COUNT]
     ensures { result ≡ take register_count image.now }
 {
-    [
-        image[0], image[1], image[2], image[3], image[4], image[5], image[6], image[7], image[8],
-        image[9], image[10],
-    ]
+    let mut regs = [0; REGISTER_COUNT];
+    regs.copy_from_slice(&image[..REGISTER_COUNT]);
+    regs
 }
 
-pub(crate) fn controller_at(image: &[u8]) -> Reu
-    requires { length image.now ≡ image_size }
+pub(crate) fn controller_at(image: &[u8; IMAGE_BYTES]) -> Reu
     ensures { result ≡ reu_at image.now }
 {
     let flags = image[layout::FLAGS];
     let more = image[layout::MORE_FLAGS];
-    let regs = registers_at(image);
-    let dma = dma_at(image);
     Reu {
-        regs: regs,
+        regs: registers_at(image),
         shadow_c64_addr: get(image, layout::SHADOW_C64, layout::SHADOW_EXPANSION) as u16,
         shadow_reu_addr: get(image, layout::SHADOW_EXPANSION, layout::SHADOW_LENGTH),
         shadow_len: get(image, layout::SHADOW_LENGTH, layout::FLAGS) as u16,
@@ -131,7 +112,7 @@ pub(crate) fn controller_at(image: &[u8]) -> Reu
         swap_refresh: more & 0x01 != 0,
         swap_release_pending: more & 0x02 != 0,
         swap_read_delay: image[layout::DELAY],
-        dma: dma,
+        dma: dma_at(image),
         granted_cycles: get(image, layout::GRANTED_CYCLES, layout::IMAGE_BYTES),
         size: size_of(more / 4),
     }
@@ -140,8 +121,7 @@ pub(crate) fn controller_at(image: &[u8]) -> Reu
 // ---- the ranges
 
 // The fields whose bytes could say more values than they have.
-fn ranges_ok(image: &[u8]) -> bool
-    requires { length image.now ≡ image_size }
+fn ranges_ok(image: &[u8; IMAGE_BYTES]) -> bool
     ensures { result ≡ below (values fields) (lifted fields image.now) }
 {
     (image[layout::MORE_FLAGS] < 12)
@@ -153,8 +133,7 @@ fn ranges_ok(image: &[u8]) -> bool
 }
 
 // Without a transfer its fields are 0.
-fn idle_ok(image: &[u8]) -> bool
-    requires { length image.now ≡ image_size }
+fn idle_ok(image: &[u8; IMAGE_BYTES]) -> bool
     ensures { result ≡ all_zero (take transfer_fields (drop kind (lifted fields image.now))) }
 {
     let c64 = get(image, layout::TRANSFER_C64, layout::TRANSFER_EXPANSION);
@@ -169,8 +148,7 @@ fn idle_ok(image: &[u8]) -> bool
         & (image[layout::OPTIONS] == 0)
 }
 
-pub(crate) fn bytes_ok(image: &[u8]) -> bool
-    requires { length image.now ≡ image_size }
+pub(crate) fn bytes_ok(image: &[u8; IMAGE_BYTES]) -> bool
     ensures { result ≡ bytes_ok image.now }
 {
     let ranges = ranges_ok(image);

@@ -5,13 +5,6 @@ use Rattle.text.specs.Shown.{◌⊕◌, ascii, hex_of}
 use Rattle.lines.specs.Memory.{bytes_text}
 
 module _ (k : ℕ) (m : List ℕ) (a end : ℕ) (t₀ : List ℕ) where
-  -- before the first byte
-  pub begun : {t : List ℕ} → t ≡ t₀ → bytes_text k m a end t₀ ≡ bytes_text (k - 0) m (a + 0) end t
-  begun p =
-      let n : k ≡ k - 0 = omega arith in
-      let d : a ≡ a + 0 = omega arith in
-      λ j. bytes_text (n j) m (d j) end (sym p j)
-
   module _ (i : ℕ) (t : List ℕ) (inv : bytes_text k m a end t₀ ≡ bytes_text (k - i) m (a + i) end t) where
     -- one byte more
     pub onward :

@@ -1,6 +1,5 @@
 -- Bytes one after another to one address after another, as a loop over a line's words does it.
-use Rattle.std.proofs.Common.{◌≡◌, ℕ, suc, ◌+◌, ◌-◌, ◌<◌, ◌≤◌, List, length, sym, refl, ap, ◌∙◌, arith}
-use Rattle.text.specs.Typed.{words_of}
+use Rattle.std.proofs.Common.{◌≡◌, ℕ, suc, ◌+◌, ◌-◌, ◌<◌, ◌≤◌, List, length, sym, ap, ◌∙◌, arith}
 use Rattle.lines.specs.Memory.{address, bytes_from, bytes_of, each, typed}
 
 -- before word i, with m so far: what is left of the words makes of m what all of them make of m₀
@@ -10,16 +9,6 @@ pub record Left (f : ℕ → ℕ → List ℕ → List ℕ) (t m₀ : List ℕ) 
   pub says : each f (address t) (bytes_of t) m₀ ≡ each f (a + (i - 2)) (bytes_from (words - i) i t) m
 
 module _ (f : ℕ → ℕ → List ℕ → List ℕ) (t m₀ : List ℕ) (a words : ℕ) where
-  -- before the first byte
-  pub begun : a ≡ address t → words ≡ words_of t → Left f t m₀ a words 2 m₀
-  begun p q =
-      let e : address t ≡ a + 0 = omega arith in
-      record {
-        past = omega arith;
-        size = refl;
-        says = λ j. each f (e j) (bytes_from (sym q j - 2) 2 t) m₀;
-      }
-
   module _ (i : ℕ) (m : List ℕ) (l : Left f t m₀ a words i m) where
     -- one byte more
     pub onward :

@@ -1,10 +1,20 @@
 -- The three files of a saved machine.
-use Rattle.std.specs.Prelude.{ℕ, Bool, cond, not, ◌&&◌, ◌||◌, List, ◌++◌, length, take, drop, ◌==◌}
+use Rattle.std.specs.Prelude.{ℕ, Bool, false, cond, ◌||◌, List, [], ◌++◌, length, take, drop, eqb}
 use Rattle.text.specs.Shown.{◌⊕◌, ascii, decimal_up_to, fill_of}
+use Rattle.lines.specs.declared.files.Part.{Part}
+use Rattle.lines.specs.declared.files.Part.TheVariants.{Image, Bus, Storage}
+use Rattle.lines.specs.declared.files.Length.{Length}
+use Rattle.lines.specs.declared.files.Length.TheVariants.{Exactly, MoreThan}
 
--- 0 is the image, 1 the bus, 2 the storage
-abbrev pub part_name : List ℕ → ℕ → List ℕ
-part_name name part = cond (part == 0) name (cond (part == 1) (name ⊕ ascii ".bus") (name ⊕ ascii ".storage"))
+abbrev pub suffix_of : Part → List ℕ
+suffix_of Image = []
+suffix_of Bus = ascii ".bus"
+suffix_of Storage = ascii ".storage"
+
+abbrev pub part_name : List ℕ → Part → List ℕ
+part_name name Image = name
+part_name name Bus = name ⊕ ascii ".bus"
+part_name name Storage = name ⊕ ascii ".storage"
 
 -- bytes over others, from the first on: what has no room is left out
 abbrev pub copied_over : List ℕ → List ℕ → List ℕ
@@ -12,23 +22,24 @@ copied_over from to = take (length to) from ++ drop (length from) to
 
 -- ---- a file that has another length than its part needs
 
--- what was counted of it; `on` says that it goes on
-unfoldable pub length_text : List ℕ → ℕ → Bool → List ℕ
-length_text file got on =
-    let t : List ℕ = fill_of "refused: % has " file in
-    cond on (t ⊕ ascii "more than " ⊕ decimal_up_to 20 got) (t ⊕ decimal_up_to 20 got)
+-- what was counted of it
+unfoldable pub length_text : List ℕ → Length → List ℕ
+length_text file (Exactly n) = fill_of "refused: % has " file ⊕ decimal_up_to 20 n
+length_text file (MoreThan n) = fill_of "refused: % has " file ⊕ ascii "more than " ⊕ decimal_up_to 20 n
 
 -- the lengths of earlier images: document 01's "34 bytes", and L1's "The image grows to 38 bytes"
-abbrev pub is_earlier : ℕ → Bool
-is_earlier got = got == 34 || got == 38
+abbrev pub is_earlier : Length → Bool
+is_earlier (Exactly n) = eqb n 34 || eqb n 38
+is_earlier (MoreThan n) = false
 
 -- "Refusal 1" is of the image alone; L3: "Earlier images are refused"
-unfoldable pub reason_text : List ℕ → ℕ → ℕ → Bool → List ℕ
-reason_text t part got on =
+unfoldable pub reason_text : List ℕ → Part → Length → List ℕ
+reason_text t Image got =
     let image : List ℕ = t ⊕ ascii " (refusal 1)" in
-    cond (part == 0) (cond (is_earlier got && not on) (image ⊕ ascii ": an earlier release saved it") image) t
+    cond (is_earlier got) (image ⊕ ascii ": an earlier release saved it") image
+reason_text t other got = t
 
-abbrev pub length_fault : List ℕ → ℕ → ℕ → Bool → ℕ → List ℕ
-length_fault name part got on needed =
+abbrev pub length_fault : List ℕ → Part → Length → ℕ → List ℕ
+length_fault name part got needed =
     reason_text
-    (length_text (part_name name part) got on ⊕ ascii " bytes, " ⊕ decimal_up_to 20 needed ⊕ ascii " are needed") part got on
+    (length_text (part_name name part) got ⊕ ascii " bytes, " ⊕ decimal_up_to 20 needed ⊕ ascii " are needed") part got

@@ -1,5 +1,5 @@
 -- Bytes of the bus and of the storage: `>`, `>s`, `m` and `ms`. t is the line that was typed.
-use Rattle.std.specs.Prelude.{ℕ, zero, suc, ◌+◌, ◌-◌, ◌%◌, min, Bool, cond, List, [], ◌∷◌, ◌++◌, take, drop, ◌==◌, nat_le, nat_lt, slice_set}
+use Rattle.std.specs.Prelude.{ℕ, zero, suc, ◌+◌, ◌-◌, ◌%◌, min, Bool, cond, List, [], ◌∷◌, ◌++◌, take, drop, ◌==◌, leb, ltb, slice_set}
 use Rattle.transfer.specs.Memory.{zeros}
 use Rattle.text.specs.Faults.{fault_of, faults_of, or_else}
 use Rattle.text.specs.Bytes.{byte_at}
@@ -37,9 +37,9 @@ stored t m = each (λ a b n. slice_set n a b) (address t) (bytes_of t) m
 
 unfoldable pub store_fault : List ℕ → ℕ → List ℕ
 store_fault t most =
-    cond (nat_lt (words_of t) 3) (fill_of "usage: % ADDR BYTE.." (word_of 0 t))
+    cond (ltb (words_of t) 3) (fill_of "usage: % ADDR BYTE.." (word_of 0 t))
     (or_else (fault_of (word_of 1 t) most)
-    (cond (nat_lt most (address t + (words_of t - 3))) (fill_of "% runs past the last address" (word_of 0 t))
+    (cond (ltb most (address t + (words_of t - 3))) (fill_of "% runs past the last address" (word_of 0 t))
     (faults_of t 2 255)))
 
 -- ---- m and ms
@@ -51,7 +51,7 @@ address_text storage a = cond storage ([] ⊕ ascii ">s " ⊕ hex_of 5 a) ([] �
 -- k bytes from an address on, behind a text, as far as `end`
 unfoldable pub bytes_text : ℕ → List ℕ → ℕ → ℕ → List ℕ → List ℕ
 bytes_text zero m a end t = t
-bytes_text (suc k) m a end t = bytes_text k m (a + 1) end (cond (nat_le a end) (t ⊕ ascii " " ⊕ hex_of 2 (byte_at m a)) t)
+bytes_text (suc k) m a end t = bytes_text k m (a + 1) end (cond (leb a end) (t ⊕ ascii " " ⊕ hex_of 2 (byte_at m a)) t)
 
 abbrev pub bytes_line : Bool → List ℕ → ℕ → ℕ → List ℕ
 bytes_line storage m a end = bytes_text 16 m a end (address_text storage a)
@@ -63,7 +63,7 @@ end_of t most = cond (words_of t == 3) (value_of (number_of (word_of 2 t))) (min
 unfoldable pub range_fault : List ℕ → ℕ → List ℕ
 range_fault t most =
     or_else (faults_of t 1 most)
-    (cond (nat_lt (end_of t most) (address t)) (fill_of "%: END is below ADDR" (word_of 0 t)) [])
+    (cond (ltb (end_of t most) (address t)) (fill_of "%: END is below ADDR" (word_of 0 t)) [])
 
 unfoldable pub show_fault : List ℕ → ℕ → List ℕ
 show_fault t most =

@@ -1,11 +1,19 @@
 // Time: the number of the next cycle, and the BA inputs of those to come.
-ghost use Rattle.std.specs.Prelude.{◌≡◌, ◌+◌, ◌≤◌, [], if◌then◌else◌, nat_lt};
+ghost use Rattle.std.specs.Prelude.{◌≡◌, ◌+◌, [], if◌then◌else◌, ltb};
 ghost use Rattle.text.specs.Shown.{text_of};
-ghost use Rattle.lines.specs.Clock.{inputs_of, is_pattern, letter_of, next_clock};
+ghost use Rattle.lines.specs.Clock.{inputs_of, inputs_shown, is_pattern, letter_of, next_clock, said_by};
 
 use text::line::Line;
 
-#[derive(Clone, Copy)]
+// BA in a cycle: high to the processor, high at the first phase, low to the transfer.
+#[derive(Clone, Copy, PartialEq, Eq, Debug)]
+pub struct Inputs {
+    pub ba_high: bool,
+    pub ba_high_phi1: bool,
+    pub ba_low: bool,
+}
+
+#[derive(Drop)]
 pub struct Clock {
     pub cycle: u64,
     // A letter for each of the following cycles; past the end BA is high.
@@ -14,41 +22,37 @@ pub struct Clock {
     pub at: usize,
 }
 
-// What a letter says of BA, as three bits: high to the processor, high at the first phase, low to the transfer. 8 for no letter.
+// What a number from 0 to 7 says of BA, by its bits.
+fn said_by(number: u8) -> Inputs
+    ensures { result ≡ said_by number }
+{
+    Inputs {
+        ba_high: number & 4 != 0,
+        ba_high_phi1: number & 2 != 0,
+        ba_low: number & 1 != 0,
+    }
+}
+
+// What a letter says of BA.
 #[tactic(auto, unfolding(crate::specs::Clock::inputs_of))]
-fn inputs_or_none(letter: u8) -> u8
-    ensures value { result ≡ inputs_of letter }
-    ensures upper_bound { result ≤ 8 }
+fn inputs_of(letter: u8) -> Option<Inputs>
+    ensures { result ≡ inputs_of letter }
 {
     match letter {
-        b'h' => 6,
-        b'l' => 1,
-        b'f' => 3,
-        b'r' => 4,
-        b'0'..=b'7' => letter - 48,
-        _ => 8,
+        b'h' => Some(said_by(6)),
+        b'l' => Some(said_by(1)),
+        b'f' => Some(said_by(3)),
+        b'r' => Some(said_by(4)),
+        b'0'..=b'7' => Some(said_by(letter - b'0')),
+        _ => None,
     }
 }
 
 // Whether a word has only letters.
-pub fn is_pattern(word: Line) -> bool
-    ensures { result ≡ is_pattern (text_of word) }
+pub fn is_pattern(word: &[u8]) -> bool
+    ensures { result ≡ is_pattern word.now }
 {
-    let length = word.length();
-    let mut i = 0;
-    while i < length {
-        if inputs_or_none(word.byte(i)) == 8 {
-            return false;
-        }
-        i += 1;
-    }
-    true
-}
-
-fn later(at: usize, end: usize) -> usize
-    ensures { result ≡ at + (if nat_lt at end then 1 else 0) }
-{
-    if at < end { at + 1 } else { at }
+    word.iter().all(|letter| inputs_of(*letter).is_some())
 }
 
 impl Clock {
@@ -66,34 +70,28 @@ impl Clock {
     }
 
     // The letter of the next cycle.
-    pub fn letter(self) -> u8
-        ensures { result ≡ letter_of self }
+    pub fn letter(&self) -> u8
+        ensures { result ≡ letter_of self.now }
     {
-        let ba = self.ba;
-        let at = self.at;
-        if at < ba.length() {
-            return ba.byte(at);
-        }
-        b'h'
+        self.ba.as_bytes().get(self.at).copied().unwrap_or(b'h')
     }
 
-    // The inputs of the next cycle: ba_high, ba_high_phi1 and ba_low as bits 2, 1 and 0.
-    pub fn inputs(self) -> u8
-        ensures value { result ≡ inputs_of (letter_of self) }
-        ensures upper_bound { result ≤ 8 }
+    // The inputs of the next cycle. What is no letter says nothing of BA.
+    pub fn inputs(&self) -> Inputs
+        ensures { result ≡ inputs_shown (letter_of self.now) }
     {
-        inputs_or_none(self.letter())
+        inputs_of(self.letter()).unwrap_or(said_by(0))
     }
 
     // After a cycle. Cycle numbers have 64 bits, and after the last comes 0.
     pub fn next(self) -> Clock
         ensures { result ≡ next_clock self }
     {
-        let ba = self.ba;
+        let later = self.at + usize::from(self.at < self.ba.as_bytes().len());
         Clock {
-            cycle: std::num::wrapping_add_u64(self.cycle, 1),
-            ba,
-            at: later(self.at, ba.length()),
+            cycle: self.cycle.wrapping_add(1),
+            ba: self.ba,
+            at: later,
         }
     }
 }

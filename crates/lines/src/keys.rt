@@ -1,51 +1,90 @@
-// The commands as numbers: the places of their names (commands::place).
+// The commands, and the words that they are typed as.
+ghost use Rattle.std.specs.Prelude.{◌≡◌};
+ghost use Rattle.lines.specs.Keys.{name_of};
 
-// r
-pub const R: usize = 0;
-// m
-pub const M: usize = 1;
-// ms
-pub const MS: usize = 2;
-// >
-pub const POKE: usize = 3;
-// >s
-pub const POKES: usize = 4;
-// w
-pub const W: usize = 5;
-// rd
-pub const RD: usize = 6;
-// ff00
-pub const FF00: usize = 7;
-// FF00
-pub const FF00_UPPER: usize = 8;
-// z
-pub const Z: usize = 9;
-// g
-pub const G: usize = 10;
-// ba
-pub const BA: usize = 11;
-// cycle
-pub const CYCLE: usize = 12;
-// enable
-pub const ENABLE: usize = 13;
-// disable
-pub const DISABLE: usize = 14;
-// reset
-pub const RESET: usize = 15;
-// new
-pub const NEW: usize = 16;
-// save
-pub const SAVE: usize = 17;
-// open
-pub const OPEN: usize = 18;
-// beside
-pub const BESIDE: usize = 19;
-// help
-pub const HELP: usize = 20;
-// q
-pub const Q: usize = 21;
-// size
-pub const SIZE: usize = 22;
+#[derive(Clone, Copy, PartialEq, Eq, Debug)]
+pub enum Command {
+    R,
+    M,
+    Ms,
+    Poke,
+    PokeStorage,
+    W,
+    Rd,
+    Ff00,
+    Ff00Upper,
+    Z,
+    G,
+    Ba,
+    Cycle,
+    Enable,
+    Disable,
+    Reset,
+    New,
+    Save,
+    Open,
+    Beside,
+    Help,
+    Q,
+    Size,
+}
 
-// How many there are.
-pub const COUNT: usize = 23;
+// Every one.
+pub const COMMANDS: [Command; 23] = [
+    Command::R,
+    Command::M,
+    Command::Ms,
+    Command::Poke,
+    Command::PokeStorage,
+    Command::W,
+    Command::Rd,
+    Command::Ff00,
+    Command::Ff00Upper,
+    Command::Z,
+    Command::G,
+    Command::Ba,
+    Command::Cycle,
+    Command::Enable,
+    Command::Disable,
+    Command::Reset,
+    Command::New,
+    Command::Save,
+    Command::Open,
+    Command::Beside,
+    Command::Help,
+    Command::Q,
+    Command::Size,
+];
+
+impl Command {
+    // Its word.
+    pub fn name(self) -> &'static [u8]
+        ensures { result.now ≡ name_of self }
+    {
+        match self {
+            Command::R => b"r",
+            Command::M => b"m",
+            Command::Ms => b"ms",
+            Command::Poke => b">",
+            Command::PokeStorage => b">s",
+            Command::W => b"w",
+            Command::Rd => b"rd",
+            Command::Ff00 => b"ff00",
+            Command::Ff00Upper => b"FF00",
+            Command::Z => b"z",
+            Command::G => b"g",
+            Command::Ba => b"ba",
+            Command::Cycle => b"cycle",
+            Command::Enable => b"enable",
+            Command::Disable => b"disable",
+            Command::Reset => b"reset",
+            Command::New => b"new",
+            Command::Save => b"save",
+            Command::Open => b"open",
+            Command::Beside => b"beside",
+            Command::Help => b"help",
+            Command::Q => b"q",
+            Command::Size => b"size",
+        }
+    }
+}

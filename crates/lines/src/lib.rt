@@ -10,3 +10,4 @@ pub mod keys;
 pub mod memory;
 pub mod prompt;
 pub mod registers;
+mod texts;

@@ -1,12 +1,15 @@
 // Bytes of the bus and of the storage, and the words of a line as bytes.
-ghost use Rattle.std.specs.Prelude.{◌≡◌, ◌+◌, ◌-◌, ◌≤◌, min, length, set as list_set, replicate, if◌then◌else◌, nat_le};
+ghost use Rattle.std.specs.Prelude.{◌≡◌, ◌≤◌, min, length, set as list_set, replicate, if◌then◌else◌, leb};
 ghost use Rattle.text.specs.Bytes.{byte_at};
+ghost use Rattle.text.specs.Faults.{Says};
 ghost use Rattle.text.specs.Shown.{◌⊕◌, ascii, hex_of, text_of};
 ghost use Rattle.lines.specs.Memory.{address, address_text, bytes_line, cleared_from, end_of, range_fault, show_fault, store_fault, stored, typed};
 
+use crate::texts::refuse;
 use text::bytes::byte;
-use text::faults::{fault, faults, value};
-use text::line::{Line, fill};
+use text::faults::{number, numbers, value};
+use text::line::Line;
+use text::words::{word, word_count};
 
 // The last address of the bus.
 pub const LAST_ADDRESS: u32 = 65535;
@@ -17,18 +20,12 @@ const SHOWN: u32 = 63;
 
 // ---- a new machine's
 
-pub fn empty_bus() -> [u8; 65536]
-    ensures value { result ≡ replicate 65536 0 }
-    ensures long { 65536 ≡ length result }
+// Its bus or its storage.
+pub fn empty<const N: usize>() -> [u8; N]
+    ensures value { result ≡ replicate N 0 }
+    ensures long { N ≡ length result }
 {
-    [0; 65536]
-}
-
-pub fn empty_storage() -> [u8; 524288]
-    ensures value { result ≡ replicate 524288 0 }
-    ensures long { 524288 ≡ length result }
-{
-    [0; 524288]
+    [0; N]
 }
 
 // Bytes from a place on become 0: behind a storage that is smaller than what it lies in there are no others.
@@ -51,52 +48,47 @@ fn put(s: &mut [u8], i: usize, value: u8)
 }
 
 // The address that the second word of a line is.
-pub fn address_of(line: Line) -> u32
-    ensures value { result ≡ address (text_of line) }
+pub fn address_of(line: &[u8]) -> u32
+    ensures value { result ≡ address line.now }
     ensures upper_bound { result ≤ 16777215 }
 {
-    value(line.word(1))
+    value(word(line, 1))
 }
 
 // The byte that a word is.
-pub fn byte_of(line: Line, i: usize) -> u8
-    ensures { result ≡ typed (text_of line) i }
+pub fn byte_of(line: &[u8], i: usize) -> u8
+    ensures { result ≡ typed line.now i }
 {
-    (value(line.word(i)) % 256) as u8
+    (value(word(line, i)) % 256) as u8
 }
 
 // ---- > and >s
 
-// The third word's byte goes to the address, the fourth's to the next, and so on.
-pub fn store(line: Line, memory: &mut [u8])
-    ensures { memory.new ≡ stored (text_of line) memory.old }
+// The third word's byte goes to the address, the fourth's to the next, and so on. What is done with a byte is no closure that the loop
+// takes: its calls would need a `requires`, which no public function has.
+pub fn store(line: &[u8], memory: &mut [u8])
+    ensures { memory.new ≡ stored line.now memory.old }
 {
     let from = address_of(line) as usize;
-    let words = line.words();
-    let mut i = 2;
-    while i < words {
+    for i in 2..word_count(line) {
         put(memory, from + (i - 2), byte_of(line, i));
-        i += 1;
     }
 }
 
-// What is wrong with an address and bytes after it: no bytes where nothing is.
+// What is wrong with an address and bytes after it.
 #[tactic(auto, unfolding(crate::specs::Memory::store_fault))]
-pub fn store_fault(line: Line, most: u32) -> Line
-    ensures { text_of result ≡ store_fault (text_of line) most }
+pub fn store_fault(line: &[u8], most: u32) -> Result<(), Line>
+    ensures { Says result (store_fault line.now most) }
 {
-    let words = line.words();
+    let words = word_count(line);
     if words < 3 {
-        return fill(b"usage: % ADDR BYTE..", line.word(0));
+        return refuse(b"usage: % ADDR BYTE..", word(line, 0));
     }
-    let found = fault(line.word(1), most);
-    if !found.is_empty() {
-        return found;
+    let from = number(word(line, 1), most)?;
+    if (most as usize) < (from as usize) + (words - 3) {
+        return refuse(b"% runs past the last address", word(line, 0));
     }
-    if (most as usize) < (address_of(line) as usize) + (words - 3) {
-        return fill(b"% runs past the last address", line.word(0));
-    }
-    faults(line, 2, 255)
+    numbers(line, 2, 255)
 }
 
 // ---- m and ms
@@ -106,16 +98,16 @@ fn address_text(storage: bool, address: u32) -> Line
     ensures { text_of result ≡ address_text storage address }
 {
     if storage {
-        return Line::new().text(b">s ").hex5(address);
+        return Line::new().text(b">s ").hex(5, address);
     }
-    Line::new().text(b"> ").hex4(address)
+    Line::new().text(b"> ").hex(4, address)
 }
 
 fn byte_up_to(line: Line, memory: &[u8], at: usize, end: usize) -> Line
-    ensures { text_of result ≡ (if nat_le at end then (text_of line ⊕ ascii " " ⊕ hex_of 2 (byte_at memory.now at)) else text_of line) }
+    ensures { text_of result ≡ (if leb at end then (text_of line ⊕ ascii " " ⊕ hex_of 2 (byte_at memory.now at)) else text_of line) }
 {
     if at <= end {
-        return line.text(b" ").hex2(byte(memory, at));
+        return line.text(b" ").hex(2, u32::from(byte(memory, at)));
     }
     line
 }
@@ -125,56 +117,41 @@ pub fn bytes_line(storage: bool, memory: &[u8], from: u32, end: u32) -> Line
     ensures { text_of result ≡ bytes_line storage memory.now from end }
 {
     let mut line = address_text(storage, from);
-    let mut i = 0;
-    while i < PER_LINE {
+    for i in 0..PER_LINE {
         line = byte_up_to(line, memory, (from as usize) + i, end as usize);
-        i += 1;
     }
     line
 }
 
-fn least(a: u32, b: u32) -> u32
-    ensures { result ≡ min a b }
-{
-    if a < b { a } else { b }
-}
-
 // The last address to show.
 #[tactic(auto, unfolding(crate::specs::Memory::end_of))]
-pub fn end_of(line: Line, most: u32) -> u32
-    ensures { result ≡ end_of (text_of line) most }
+pub fn end_of(line: &[u8], most: u32) -> u32
+    ensures { result ≡ end_of line.now most }
 {
-    if line.words() == 3 {
-        return value(line.word(2));
+    if word_count(line) == 3 {
+        return value(word(line, 2));
     }
-    least(address_of(line) + SHOWN, most)
+    most.min(address_of(line) + SHOWN)
 }
 
 #[tactic(auto, unfolding(crate::specs::Memory::range_fault))]
-fn range_fault(line: Line, most: u32) -> Line
-    ensures { text_of result ≡ range_fault (text_of line) most }
+fn range_fault(line: &[u8], most: u32) -> Result<(), Line>
+    ensures { Says result (range_fault line.now most) }
 {
-    let found = faults(line, 1, most);
-    if !found.is_empty() {
-        return found;
-    }
+    numbers(line, 1, most)?;
     if end_of(line, most) < address_of(line) {
-        return fill(b"%: END is below ADDR", line.word(0));
+        return refuse(b"%: END is below ADDR", word(line, 0));
     }
-    Line::new()
+    Ok(())
 }
 
 // What is wrong with an address and an end that may be left out.
 #[tactic(auto, unfolding(crate::specs::Memory::show_fault))]
-pub fn show_fault(line: Line, most: u32) -> Line
-    ensures { text_of result ≡ show_fault (text_of line) most }
+pub fn show_fault(line: &[u8], most: u32) -> Result<(), Line>
+    ensures { Says result (show_fault line.now most) }
 {
-    let words = line.words();
-    if words == 2 {
-        return range_fault(line, most);
+    match word_count(line) {
+        2 | 3 => range_fault(line, most),
+        _ => refuse(b"usage: % ADDR [END]", word(line, 0)),
     }
-    if words == 3 {
-        return range_fault(line, most);
-    }
-    fill(b"usage: % ADDR [END]", line.word(0))
 }

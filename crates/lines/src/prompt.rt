@@ -1,10 +1,11 @@
 // What stands before a command, and the program's own argument.
-ghost use Rattle.std.specs.Prelude.{◌≡◌};
-ghost use Rattle.text.specs.Shown.{ascii, text_of};
+ghost use Rattle.std.specs.Prelude.{◌≡◌, ◌≤◌, [], length};
+ghost use Rattle.text.specs.Shown.{◌⊕◌, ascii, text_of};
 ghost use Rattle.text.specs.Typed.{same};
 ghost use Rattle.lines.specs.Prompt.{echo_of, prompt_of};
 
 use crate::commands::is_comment;
+use crate::texts::is_same;
 use text::line::Line;
 
 pub fn prompt(cycle: u64) -> Line
@@ -14,18 +15,20 @@ pub fn prompt(cycle: u64) -> Line
 }
 
 // A command that nobody typed is shown as if it had been; a comment stands by itself.
-pub fn echoed(cycle: u64, line: Line) -> Line
-    ensures { text_of result ≡ echo_of cycle (text_of line) }
+#[tactic(auto, using(crate::proofs::Whole::whole, crate::proofs::Whole::twice))]
+pub fn echoed(cycle: u64, line: &[u8]) -> Line
+    ensures cut { text_of result ≡ [] ⊕ echo_of cycle line.now }
+    ensures whole { length line.now ≤ 160 → text_of result ≡ echo_of cycle line.now }
 {
     if is_comment(line) {
-        return line;
+        return Line::new().text(line);
     }
-    prompt(cycle).line(line, 0)
+    prompt(cycle).text(line)
 }
 
 // Whether rows that changed are to be bold.
-pub fn is_colour(word: Line) -> bool
-    ensures { result ≡ same (text_of word) (ascii "--colour") }
+pub fn is_colour(word: &[u8]) -> bool
+    ensures { result ≡ same word.now (ascii "--colour") }
 {
-    word.same(Line::new().text(b"--colour"))
+    is_same(word, b"--colour")
 }

@@ -1,44 +1,39 @@
-// What is wrong with a line that writes or reads registers: no bytes where nothing is.
-ghost use Rattle.std.specs.Prelude.{◌≡◌};
-ghost use Rattle.text.specs.Shown.{text_of};
+// What is wrong with a line that writes or reads registers.
+ghost use Rattle.text.specs.Faults.{Says};
 ghost use Rattle.lines.specs.Registers.{place_fault, read_fault, write_fault};
 
-use crate::memory::store_fault;
-use text::faults::{fault, value};
-use text::line::{Line, fill};
+use crate::memory::{LAST_ADDRESS, store_fault};
+use crate::texts::refuse;
+use text::faults::number;
+use text::line::Line;
+use text::words::{word, word_count};
 
 // A register's address.
 #[tactic(auto, unfolding(crate::specs::Registers::place_fault))]
-fn place_fault(word: Line) -> Line
-    ensures { text_of result ≡ place_fault (text_of word) }
+fn place_fault(word: &[u8]) -> Result<(), Line>
+    ensures { Says result (place_fault word.now) }
 {
-    let found = fault(word, 65535);
-    if !found.is_empty() {
-        return found;
+    let place = number(word, LAST_ADDRESS)?;
+    if place / 256 == 0xDF {
+        return Ok(());
     }
-    if value(word) / 256 == 0xDF {
-        return Line::new();
-    }
-    fill(b"no register at %: they are at DF00 to DF0A", word)
+    refuse(b"no register at %: they are at DF00 to DF0A", word)
 }
 
 #[tactic(auto, unfolding(crate::specs::Registers::write_fault))]
-pub fn write_fault(line: Line) -> Line
-    ensures { text_of result ≡ write_fault (text_of line) }
+pub fn write_fault(line: &[u8]) -> Result<(), Line>
+    ensures { Says result (write_fault line.now) }
 {
-    let found = store_fault(line, 65535);
-    if !found.is_empty() {
-        return found;
-    }
-    place_fault(line.word(1))
+    store_fault(line, LAST_ADDRESS)?;
+    place_fault(word(line, 1))
 }
 
 #[tactic(auto, unfolding(crate::specs::Registers::read_fault))]
-pub fn read_fault(line: Line) -> Line
-    ensures { text_of result ≡ read_fault (text_of line) }
+pub fn read_fault(line: &[u8]) -> Result<(), Line>
+    ensures { Says result (read_fault line.now) }
 {
-    if line.words() == 2 {
-        return place_fault(line.word(1));
+    if word_count(line) == 2 {
+        return place_fault(word(line, 1));
     }
-    fill(b"usage: % ADDR", line.word(0))
+    refuse(b"usage: % ADDR", word(line, 0))
 }

@@ -4,50 +4,40 @@
 mod files;
 mod help;
 mod input;
+mod machine;
 mod output;
 mod turn;
 
 use console::session::Session;
 use files::open_read;
-use image::layout::IMAGE_BYTES;
-use input::Source;
-use lines::memory::{empty_bus, empty_storage};
 use lines::prompt::is_colour;
+use machine::Machine;
 use output::{say, tell};
 use std::env::Env;
 use std::io;
+use std::io::{IsTerminal, Read};
 use std::rt::Files;
-use text::line::{Line, fill};
+use text::line::Line;
 use turn::{Terminal, turn};
 
-// An argument of more than 128 bytes counts as none.
-fn argument(rt: &impl Env, i: usize) -> Line {
+// An argument of more than 128 bytes counts as none, and so does one without any.
+fn argument(rt: &impl Env, i: usize) -> Option<Line> {
     let mut buffer = [0u8; 128];
-    match rt.arg(i, &mut buffer) {
-        Ok(n) => Line::new().text(&buffer[..n]),
-        Err(_) => Line::new(),
+    let count = rt.arg(i, &mut buffer).ok()?;
+    if count == 0 {
+        return None;
     }
+    Some(Line::new().text(&buffer[..count]))
 }
 
-// Commands come from standard input, or from the file that an argument names.
-fn source(rt: &HostRuntime, script: Line) -> Option<Source> {
-    if script.is_empty() {
-        return Some(Source::Standard(rt.stdin()));
-    }
-    Some(Source::Script(open_read(rt, script)?))
-}
-
-fn turns(
+fn turns<S: Read + Drop>(
     rt: &(impl Files + Print),
-    source: &mut Source,
-    terminal: Terminal,
-    image: &mut [u8],
-    bus: &mut [u8],
-    storage: &mut [u8],
+    mut terminal: Terminal<S>,
+    mut machine: Machine,
 ) -> io::Result<()> {
     let mut session = Session::new();
     for _ in 0..u64::MAX {
-        session = turn(rt, session, source, terminal, image, bus, storage)?;
+        session = turn(rt, session, &mut terminal, &mut machine)?;
         if session.ended {
             return Ok(());
         }
@@ -55,19 +45,11 @@ fn turns(
     Ok(())
 }
 
-// The script's name: the first argument, or the one after --colour.
-fn script_of(rt: &impl Env, word: Line, colour: bool) -> Line {
-    if colour { argument(rt, 2) } else { word }
-}
-
-fn begin(rt: &HostRuntime, image: &mut [u8], bus: &mut [u8], storage: &mut [u8]) -> io::Result<()> {
-    let word = argument(rt, 1);
-    let colour = is_colour(word);
-    let script = script_of(rt, word, colour);
-    let Some(mut source) = source(rt, script) else {
-        return say(rt, fill(b"cannot read the commands in %", script));
-    };
-    reu::reu_new(image);
+fn begin(
+    rt: &(impl Files + Print),
+    source: impl Read + IsTerminal + Drop,
+    colour: bool,
+) -> io::Result<()> {
     let typed = source.is_terminal();
     if typed {
         tell(
@@ -76,16 +58,29 @@ fn begin(rt: &HostRuntime, image: &mut [u8], bus: &mut [u8], storage: &mut [u8])
         )?;
     }
     let terminal = Terminal {
+        source,
         colour,
         echo: !typed,
     };
-    turns(rt, &mut source, terminal, image, bus, storage)
+    turns(rt, terminal, Machine::new())
 }
 
-// The bytes are as many as the largest storage has. It ends with an error where standard output takes no more.
+// Commands come from standard input, or from the file that an argument names: the first, or the one after --colour. It ends with an
+// error where standard output takes no more.
 fn main(rt: HostRuntime) -> io::Result<()> {
-    let mut image = [0u8; IMAGE_BYTES];
-    let mut bus = empty_bus();
-    let mut storage = empty_storage();
-    begin(&rt, &mut image, &mut bus, &mut storage)
+    let first = argument(&rt, 1);
+    let colour = first
+        .as_ref()
+        .is_some_and(|word| is_colour(word.as_bytes()));
+    let script = if colour { argument(&rt, 2) } else { first };
+    let Some(name) = script else {
+        return begin(&rt, rt.stdin(), colour);
+    };
+    match open_read(&rt, name.as_bytes()) {
+        Some(file) => begin(&rt, file, colour),
+        None => say(
+            &rt,
+            &Line::new().fill(b"cannot read the commands in %", name.as_bytes()),
+        ),
+    }
 }

@@ -1,122 +1,148 @@
 // A turn: a line is read, what the turn says is shown, and so are the rows of the pane that it changed.
 use crate::files;
 use crate::help::help;
-use crate::input::{Input, Source, read_line};
-use crate::output::{say, say_any, show_bytes, show_changes, show_pane, tell};
-use console::session;
+use crate::input::read_line;
+use crate::machine::Machine;
+use crate::output::{say, show_beside, show_bytes, show_pane, tell};
 use console::session::{Session, Turned};
-use lines::commands::{is_change, place};
-use lines::keys;
-use lines::memory::{LAST_ADDRESS, clear_from};
+use lines::beside::{BEFORE, Between};
+use lines::commands::{command, is_change};
+use lines::keys::Command;
+use lines::memory::LAST_ADDRESS;
 use lines::prompt::{echoed, prompt};
-use pane::rows::{copied, lent, size_in};
+use pane::rows::size_in;
 use std::io;
+use std::io::Read;
 use std::rt::Files;
-use text::line::{Line, first};
+use text::line::Line;
+use text::words::word;
 
-// How commands are shown: in colour, and, where nobody typed them, each before its answer.
-#[derive(Clone, Copy)]
-pub struct Terminal {
+// Where commands come from, and how they are shown: in colour, and, where nobody typed them, each before its answer.
+#[derive(Drop)]
+pub struct Terminal<S> {
+    pub source: S,
     pub colour: bool,
     pub echo: bool,
 }
 
-fn ask(rt: &impl Print, cycle: u64) -> io::Result<()> {
-    let line = prompt(cycle);
-    let bytes = line.all();
-    rt.write_all(first(&bytes, line.used))
-}
-
-// The next line, unless cycles are still to be stepped.
-// At the input's end, where somebody was asked, the shell's prompt is to stand on a line of its own.
-fn listen(rt: &impl Print, session: Session, source: &mut Source, echo: bool) -> io::Result<Input> {
-    if session.left > 0 {
-        return Ok(Input {
-            line: Line::new(),
-            ended: false,
-        });
-    }
-    let cycle = session.clock.cycle;
-    if !echo {
-        ask(rt, cycle)?;
-    }
-    let input = read_line(source);
-    if input.ended & !echo {
+// Somebody is asked. At the input's end the shell's prompt is to stand on a line of its own.
+fn ask(rt: &impl Print, cycle: u64, source: &mut impl Read) -> io::Result<Option<Line>> {
+    rt.write_all(prompt(cycle).as_bytes())?;
+    let line = read_line(source);
+    if line.is_none() {
         tell(rt, b"")?;
     }
-    if echo & !input.ended {
-        say(rt, echoed(cycle, input.line))?;
+    Ok(line)
+}
+
+fn echo(rt: &impl Print, cycle: u64, source: &mut impl Read) -> io::Result<Option<Line>> {
+    let line = read_line(source);
+    if let Some(read) = &line {
+        say(rt, &echoed(cycle, read.as_bytes()))?;
     }
-    Ok(input)
+    Ok(line)
 }
 
-// A turn of the session. The storage that it is lent is the first of the bytes, as many as the image sets.
-fn take_turn(
-    session: Session,
-    line: Line,
-    image: &mut [u8],
-    bus: &mut [u8],
-    storage: &mut [u8],
-) -> Turned {
-    let size = lent(image, storage);
-    session::turn(session, line, image, bus, &mut storage[..size])
+// The next line, unless cycles are still to be stepped: then it is not looked at. None at the input's end.
+fn listen<S: Read>(
+    rt: &impl Print,
+    session: &Session,
+    terminal: &mut Terminal<S>,
+) -> io::Result<Option<Line>> {
+    if session.left > 0 {
+        return Ok(Some(Line::new()));
+    }
+    let cycle = session.clock.cycle;
+    if terminal.echo {
+        return echo(rt, cycle, &mut terminal.source);
+    }
+    ask(rt, cycle, &mut terminal.source)
 }
 
-// After `size` there are zeros behind the storage, so that a larger one has no bytes of a machine before.
-fn clear_behind(image: &[u8], storage: &mut [u8]) {
-    let size = lent(image, storage);
-    clear_from(storage, size);
+// What was done is said by a text in which the file's name stands for each %, and what was not by the error.
+fn say_done(
+    rt: &impl Print,
+    done: Result<(), Line>,
+    template: &[u8],
+    name: &[u8],
+) -> io::Result<()> {
+    match done {
+        Ok(()) => say(rt, &Line::new().fill(template, name)),
+        Err(fault) => say(rt, &fault),
+    }
+}
+
+fn compare(
+    rt: &(impl Files + Print),
+    name: &[u8],
+    machine: &Machine,
+    colour: bool,
+) -> io::Result<()> {
+    match files::read_image(rt, name) {
+        Ok(saved) => {
+            show_beside(rt, &machine.image, Between::Every, &saved, colour)?;
+            Ok(())
+        }
+        Err(fault) => say(rt, &fault),
+    }
 }
 
 // The commands that only show, and those on files.
 fn perform(
     rt: &(impl Files + Print),
-    line: Line,
+    line: &[u8],
     colour: bool,
-    image: &mut [u8],
-    bus: &mut [u8],
-    storage: &mut [u8],
+    machine: &mut Machine,
 ) -> io::Result<()> {
-    let place = place(line);
-    match place {
-        keys::R => show_pane(rt, image)?,
-        keys::M => show_bytes(rt, line, bus, false, LAST_ADDRESS)?,
-        keys::MS => show_bytes(rt, line, storage, true, size_in(image) - 1)?,
-        keys::BESIDE => files::compare(rt, line.word(1), image, colour)?,
-        keys::SAVE => files::save(rt, line.word(1), image, bus, storage)?,
-        keys::OPEN => say(
-            rt,
-            files::open_machine(rt, line.word(1), image, bus, storage),
-        )?,
-        keys::SIZE => clear_behind(image, storage),
-        keys::HELP => help(rt)?,
+    let name = word(line, 1);
+    match command(line) {
+        Some(Command::R) => show_pane(rt, &machine.image)?,
+        Some(Command::M) => show_bytes(rt, line, &machine.bus, false, LAST_ADDRESS)?,
+        Some(Command::Ms) => {
+            let last = size_in(&machine.image) - 1;
+            show_bytes(rt, line, &machine.storage, true, last)?
+        }
+        Some(Command::Beside) => compare(rt, name, machine, colour)?,
+        Some(Command::Save) => {
+            let saved = files::save(rt, name, machine);
+            say_done(rt, saved, b"saved %, %.bus and %.storage", name)?
+        }
+        Some(Command::Open) => {
+            let opened = files::open(rt, name, machine);
+            say_done(rt, opened, b"opened %, %.bus and %.storage", name)?
+        }
+        Some(Command::Size) => machine.clear_behind(),
+        Some(Command::Help) => help(rt)?,
         _ => {}
     }
     Ok(())
 }
 
 // One cycle or one command, and then the rows of the pane that it changed.
-pub(crate) fn turn(
+pub(crate) fn turn<S: Read>(
     rt: &(impl Files + Print),
     session: Session,
-    source: &mut Source,
-    terminal: Terminal,
-    image: &mut [u8],
-    bus: &mut [u8],
-    storage: &mut [u8],
+    terminal: &mut Terminal<S>,
+    machine: &mut Machine,
 ) -> io::Result<Session> {
-    let input = listen(rt, session, source, terminal.echo)?;
-    if input.ended {
+    let Some(line) = listen(rt, &session, terminal)? else {
         return Ok(session.end());
+    };
+    let before = machine.image;
+    let Turned {
+        session,
+        said,
+        obeyed,
+    } = machine.turn(session, line.as_bytes());
+    if let Some(said) = said {
+        say(rt, &said)?;
     }
-    let before = copied(image);
-    let done = take_turn(session, input.line, image, bus, storage);
-    let line = done.line;
-    say_any(rt, done.said)?;
-    perform(rt, line, terminal.colour, image, bus, storage)?;
-    let changed = show_changes(rt, image, &before, terminal.colour)?;
-    if !changed & is_change(line) {
+    if let Some(obeyed) = obeyed {
+        perform(rt, obeyed, terminal.colour, machine)?;
+    }
+    let changed = show_beside(rt, &machine.image, BEFORE, &before, terminal.colour)?;
+    if !changed & obeyed.is_some_and(is_change) {
         tell(rt, b"nothing changed")?;
     }
-    Ok(done.session)
+    Ok(session)
 }

@@ -3,3 +3,4 @@ pub mod Examples
 pub mod Numbers
 pub mod Pane
 pub mod Refused
+pub mod Types

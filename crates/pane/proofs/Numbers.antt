@@ -7,6 +7,7 @@ use native.Mathlib.Omega.{arith}
 use lib.Dec.{eqb}
 use lib.ListN.{length, drop, take}
 use lib.Seq.{drop-drop, get_or-drop}
+use Rattle.std.specs.Int.{from_le_bytes, w32}
 use Rattle.transfer.specs.Dma.{length_of}
 use Rattle.transfer.specs.Memory.{is_size, physical_offset}
 use Rattle.transfer.proofs.Sizes.{size_128, size_256, size_512, size_lines}
@@ -75,9 +76,11 @@ module _ (s : List ℕ) where
   counted =
       behind (take granted_field fields) (drop granted_field fields) s ∙ four (drop (place_of granted_field) s) ∙ there
 
-  -- read as two numbers of two bytes
-  pub halves : {a b : ℕ} → a ≡ word_at s (place_of granted_field) → b ≡ word_at s (place_of granted_field + 2) → a + 65536 * b ≡ granted_in s
-  halves p q = (λ j. p j + 65536 * q j) ∙ sym counted
+  -- read as a number of four bytes
+  pub four_bytes : {a b c d n : ℕ} → a ≡ byte_at s (place_of granted_field) → b ≡ byte_at s (place_of granted_field + 1)
+      → c ≡ byte_at s (place_of granted_field + 2) → d ≡ byte_at s (place_of granted_field + 3)
+      → n ≡ from_le_bytes w32 (a ∷ b ∷ c ∷ d ∷ []) → n ≡ granted_in s
+  four_bytes p q r t e = rw counted (omega arith)
 
   left_there : word_at (drop (place_of remaining) s) 0 ≡ word_at s (place_of remaining)
   left_there = simp get_or-drop refl

@@ -1,21 +1,15 @@
 -- Rows of the pane, put together from what their parts looked up.
 use mathlib.Core.Path.{◌≡◌, ◌∙◌}
-use mathlib.Core.Bool.{Bool, true, false}
+use mathlib.Core.Bool.{true, false, cond}
 use mathlib.Core.List.{List, []}
-use Prim.Native.Nat.{ℕ}
+use Prim.Native.Nat.{ℕ, ◌/◌}
+use lib.Dec.{eqb}
 use borrow.Author.Tests.{eq-eqb, ne_eqb}
-use Rattle.reu.specs.Exports.{reu_dma_active}
-use Rattle.pane.specs.Answers.{accepted}
+use Rattle.reu.specs.Exports.{refusal_unit, reu_dma_active}
+use Rattle.pane.specs.Answers.{accepted, refused_as}
 use Rattle.pane.specs.Rows.{held_row, refused_row, row_of}
 use Rattle.pane.specs.Rows.{held, reads, register_name, register_row, spelled}
 use Rattle.text.specs.Shown.{◌⊕◌, ascii, hex_of}
-
--- a counter and its shadow, behind a text
-pub counter :
-    (t label : List ℕ) (k : ℕ) {v w visible shadow : ℕ} {u row : List ℕ} → u ≡ t ⊕ label → v ≡ visible → w ≡ shadow →
-    row ≡ u ⊕ hex_of k v ⊕ ascii " shadow " ⊕ hex_of k w →
-    row ≡ t ⊕ label ⊕ hex_of k visible ⊕ ascii " shadow " ⊕ hex_of k shadow
-counter t label k p a b q = q ∙ (λ j. p j ⊕ hex_of k (a j) ⊕ ascii " shadow " ⊕ hex_of k (b j))
 
 -- a register: what it holds, and what a read gives
 module _ (i : List ℕ) (n : ℕ) {value read : ℕ} (v : value ≡ held i n) (r : read ≡ reads i n)
@@ -35,14 +29,14 @@ module _ (i : List ℕ) (n : ℕ) {value read : ℕ} (v : value ≡ held i n) (r
   differs h p = rw (← v, ← r, ne_eqb read value h) (p ∙ (λ j. whole j ⊕ ascii " reads " ⊕ hex_of 2 read))
 
 -- a row of an image, by what a call on it answered
-module _ (i : List ℕ) (n : ℕ) {answer : ℕ} {test : Bool} {row : List ℕ}
-    (a : answer ≡ reu_dma_active i) (e : test ≡ accepted answer) where
+module _ (i : List ℕ) (n : ℕ) {code : ℕ} {row : List ℕ} (a : code ≡ reu_dma_active i) where
   -- an accepted image shows what it holds
-  pub shown : test ≡ true → row ≡ held_row i n → row ≡ row_of i n
+  pub shown : accepted code ≡ true → row ≡ held_row i n → row ≡ row_of i n
   unfolding row_of
-  shown h p = rw (← a, ← e, h) p
+  shown h p = rw (← a, h) p
 
   -- a refused one that it is
-  pub refused : test ≡ false → row ≡ refused_row answer n → row ≡ row_of i n
-  unfolding row_of
-  refused h p = rw (← a, ← e, h) p
+  pub refused : {number : ℕ} → (accepted code ≡ false) × (number ≡ code / refusal_unit)
+      → row ≡ cond (eqb n 23) ([] ⊕ ascii "image        " ⊕ refused_as number ⊕ ascii ": no controller") [] → row ≡ row_of i n
+  unfolding row_of refused_row
+  refused h p = rw (← a, h.0, ← h.1) p

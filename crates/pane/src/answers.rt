@@ -1,22 +1,36 @@
 // What an exported call answers: a value, or that it was refused, and by which number.
 ghost use Rattle.std.specs.Prelude.{◌≡◌};
-ghost use Rattle.pane.specs.Answers.{accepted, refused_by};
+ghost use Rattle.pane.specs.Answers.{Answers, refused_as};
 ghost use Rattle.text.specs.Shown.{◌⊕◌, text_of};
 
 use text::line::Line;
 
-// An answer of this or more is a refusal.
-pub const REFUSAL_UNIT: u32 = 16777216;
+// An answer of this or more is a refusal: this times its number.
+const REFUSAL_UNIT: u32 = 16777216;
 
-pub fn is_accepted(answer: u32) -> bool
-    ensures { result ≡ accepted answer }
-{
-    answer < REFUSAL_UNIT
+// A refusal, by its number.
+#[derive(Clone, Copy, PartialEq, Eq, Debug)]
+pub struct Refused {
+    pub number: u8,
 }
 
-pub fn refusal(line: Line, answer: u32) -> Line
-    ensures { text_of result ≡ text_of line ⊕ refused_by answer }
+// What a call's code says.
+pub fn answer(code: u32) -> Result<u32, Refused>
+    ensures { Answers code result }
 {
-    line.text(b"refused by ")
-        .digits((answer / REFUSAL_UNIT) as u64)
+    if code < REFUSAL_UNIT {
+        return Ok(code);
+    }
+    Err(Refused {
+        number: (code / REFUSAL_UNIT) as u8,
+    })
+}
+
+impl Refused {
+    // Behind a line.
+    pub fn shown(self, line: Line) -> Line
+        ensures { text_of result ≡ text_of line ⊕ refused_as self.number }
+    {
+        line.text(b"refused by ").digits(u64::from(self.number))
+    }
 }

@@ -1,18 +1,23 @@
 // The register pane: a row for each register and for what else a controller holds.
 // Every number is looked up in the image at the moment that the row is made.
-ghost use Rattle.std.specs.Prelude.{◌≡◌, [], ◌%◌, ◌<◌, ◌≤◌, min, length, take};
-ghost use Rattle.image.specs.Layout.{image_size, place_of, transfer_exp};
+ghost use Rattle.std.specs.Prelude.{◌≡◌, [], ◌%◌, ◌<◌, ◌≤◌, cond, eqb, min, length, take};
+ghost use Rattle.image.specs.Layout.{image_size, kind, place_of, transfer_exp};
+ghost use Rattle.pane.specs.Answers.{refused_as};
 ghost use Rattle.pane.specs.Rows.{copy_of, flags_row, granted_in, granted_row, held_row, long_at, reads, refused_row, remaining_in, register_name, register_row, row_of, running_row, size_in, storage_row, transfer_row, type_name, word_at};
 ghost use Rattle.pane.specs.Rows.{held as rows_held, spelled as rows_spelled};
+ghost use Rattle.transfer.specs.Dma.{type_number};
+ghost use Rattle.text.specs.Bytes.{byte_at};
 ghost use Rattle.text.specs.Shown.{◌⊕◌, ascii, bits_of, hex_of, text_of};
 
-use crate::answers::{is_accepted, refusal};
+use crate::answers::{Refused, answer};
 use image::layout;
 use regs::length_of;
 use text::bytes::byte;
 use text::line::Line;
+use transfer::TransferType;
 
 pub const ROWS: usize = 24;
+
 // The registers that a row spells out, the low byte of a pair.
 const STATUS: usize = layout::REGISTERS;
 
@@ -29,12 +34,11 @@ const INTERRUPT_MASK: usize = layout::REGISTERS + 9;
 const ADDRESS_CONTROL: usize = layout::REGISTERS + 10;
 
 // Two bytes, low byte first.
-fn word(s: &[u8], i: usize) -> u32
+fn word(s: &[u8], i: usize) -> u16
     requires { i < image_size }
-    ensures value { result ≡ word_at s.now i }
-    ensures upper_bound { result ≤ 65535 }
+    ensures { result ≡ word_at s.now i }
 {
-    (byte(s, i) as u32) + 256 * (byte(s, i + 1) as u32)
+    u16::from_le_bytes([byte(s, i), byte(s, i + 1)])
 }
 
 // Three bytes, low byte first.
@@ -42,7 +46,7 @@ fn long(s: &[u8], i: usize) -> u32
     requires { i < image_size }
     ensures { result ≡ long_at s.now i }
 {
-    word(s, i) + 65536 * (byte(s, i + 2) as u32)
+    u32::from_le_bytes([byte(s, i), byte(s, i + 1), byte(s, i + 2), 0])
 }
 
 // The expansion address of the running transfer.
@@ -57,23 +61,14 @@ pub fn copied(image: &[u8]) -> [u8; layout::IMAGE_BYTES]
     ensures value { result ≡ copy_of image.now }
     ensures image_size_value { image_size ≡ length result }
 {
-    let mut copy = [255u8; layout::IMAGE_BYTES];
-    if image.len() != layout::IMAGE_BYTES {
-        return copy;
-    }
-    let mut i = 0;
-    while i < layout::IMAGE_BYTES {
-        copy[i] = byte(image, i);
-        i += 1;
-    }
-    copy
+    image.try_into().unwrap_or([255; layout::IMAGE_BYTES])
 }
 
 // What a register holds.
 fn held(image: &[u8], register: u8) -> u8
     ensures { result ≡ rows_held image.now register }
 {
-    (reu::reu_debug_register(image, register as u64) % 256) as u8
+    (reu::reu_debug_register(image, u64::from(register)) % 256) as u8
 }
 
 // What a read of the register would give, found on a copy: the machine is not touched.
@@ -81,50 +76,58 @@ fn read_gives(image: &[u8], register: u8) -> u8
     ensures { result ≡ reads image.now register }
 {
     let mut copy = copied(image);
-    (reu::reu_read(&mut copy, register as u16) % 256) as u8
+    (reu::reu_read(&mut copy, u16::from(register)) % 256) as u8
 }
 
 // ---- the registers
 
-// A register by its address and its name: nine characters of a text that has them all.
-fn name(register: u8) -> Line
-    ensures { text_of result ≡ [] ⊕ ascii "DF0" ⊕ hex_of 1 register ⊕ register_name register }
+fn register_name(register: u8) -> &'static [u8]
+    ensures { result.now ≡ register_name register }
 {
-    let names = Line::new().text(
-        b" STATUS   COMMAND  C64 LO   C64 HI   EXP LO   EXP HI   BANK     LEN LO   LEN HI   MASK     CONTROL ",
-    );
-    let name = Line::new().line(names, 9 * (register as usize)).head(9);
-    Line::new().text(b"DF0").hex1(register).line(name, 0)
-}
-
-fn type_name(line: Line, kind: u8) -> Line
-    ensures { text_of result ≡ text_of line ⊕ type_name kind }
-{
-    match kind {
-        0 => line.text(b"store"),
-        1 => line.text(b"recall"),
-        2 => line.text(b"swap"),
-        _ => line.text(b"verify"),
+    match register {
+        0 => b" STATUS  ",
+        1 => b" COMMAND ",
+        2 => b" C64 LO  ",
+        3 => b" C64 HI  ",
+        4 => b" EXP LO  ",
+        5 => b" EXP HI  ",
+        6 => b" BANK    ",
+        7 => b" LEN LO  ",
+        8 => b" LEN HI  ",
+        9 => b" MASK    ",
+        10 => b" CONTROL ",
+        _ => b"",
     }
 }
 
-fn command(line: Line, held: u8) -> Line
-    ensures { text_of result ≡ text_of line ⊕ bits_of " exec=7 load=5 now=4 " held ⊕ type_name (held % 4) }
+// A register by its address and its name.
+fn name(register: u8) -> Line
+    ensures { text_of result ≡ [] ⊕ ascii "DF0" ⊕ hex_of 1 register ⊕ register_name register }
 {
-    type_name(line.bits(b" exec=7 load=5 now=4 ", held), held % 4)
+    Line::new()
+        .text(b"DF0")
+        .hex(1, u32::from(register))
+        .text(register_name(register))
+}
+
+fn type_name(kind: TransferType) -> &'static [u8]
+    ensures { result.now ≡ type_name (type_number kind) }
+{
+    match kind {
+        TransferType::Store => b"store",
+        TransferType::Recall => b"recall",
+        TransferType::Swap => b"swap",
+        TransferType::Verify => b"verify",
+    }
 }
 
 // The visible counter of a pair, and its shadow.
-fn counter(line: Line, visible: u32, shadow: u32) -> Line
-    ensures { text_of result ≡ text_of line ⊕ hex_of 4 visible ⊕ ascii " shadow " ⊕ hex_of 4 shadow }
+fn counter(line: Line, digits: u8, visible: u32, shadow: u32) -> Line
+    ensures { text_of result ≡ text_of line ⊕ hex_of digits visible ⊕ ascii " shadow " ⊕ hex_of digits shadow }
 {
-    line.hex4(visible).text(b" shadow ").hex4(shadow)
-}
-
-fn expansion(line: Line, visible: u32, shadow: u32) -> Line
-    ensures { text_of result ≡ text_of line ⊕ hex_of 6 visible ⊕ ascii " shadow " ⊕ hex_of 6 shadow }
-{
-    line.hex6(visible).text(b" shadow ").hex6(shadow)
+    line.hex(digits, visible)
+        .text(b" shadow ")
+        .hex(digits, shadow)
 }
 
 #[tactic(auto, unfolding(crate::specs::Rows::spelled))]
@@ -133,21 +136,26 @@ fn spelled(line: Line, image: &[u8], register: u8) -> Line
 {
     match register {
         0 => line.bits(b" irq=7 end=6 err=5 ver=4", byte(image, STATUS)),
-        1 => command(line, byte(image, COMMAND)),
+        1 => line
+            .bits(b" exec=7 load=5 now=4 ", byte(image, COMMAND))
+            .text(type_name(TransferType::from_command(byte(image, COMMAND)))),
         2 => counter(
             line.text(b" c64 "),
-            word(image, C64_ADDRESS),
-            word(image, layout::SHADOW_C64),
+            4,
+            u32::from(word(image, C64_ADDRESS)),
+            u32::from(word(image, layout::SHADOW_C64)),
         ),
-        4 => expansion(
+        4 => counter(
             line.text(b" exp "),
+            6,
             long(image, EXPANSION_ADDRESS),
             long(image, layout::SHADOW_EXPANSION),
         ),
         7 => counter(
             line.text(b" len "),
-            word(image, LENGTH),
-            word(image, layout::SHADOW_LENGTH),
+            4,
+            u32::from(word(image, LENGTH)),
+            u32::from(word(image, layout::SHADOW_LENGTH)),
         ),
         9 => line.bits(b" all=7 end=6 err=5", byte(image, INTERRUPT_MASK)),
         10 => line.bits(b" fixc64=7 fixexp=6", byte(image, ADDRESS_CONTROL)),
@@ -160,11 +168,11 @@ fn register_row(image: &[u8], register: u8) -> Line
 {
     let value = held(image, register);
     let read = read_gives(image, register);
-    let line = spelled(name(register).hex2(value), image, register);
+    let line = spelled(name(register).hex(2, u32::from(value)), image, register);
     if read == value {
         return line;
     }
-    line.text(b" reads ").hex2(read)
+    line.text(b" reads ").hex(2, u32::from(read))
 }
 
 // ---- beside the registers
@@ -185,7 +193,9 @@ fn flags_row(image: &[u8], row: usize) -> Line
             b"swap rules   refresh=0 release=1",
             byte(image, layout::MORE_FLAGS),
         ),
-        _ => line.text(b"delay        ").hex1(byte(image, layout::DELAY)),
+        _ => line
+            .text(b"delay        ")
+            .hex(1, u32::from(byte(image, layout::DELAY))),
     }
 }
 
@@ -213,19 +223,16 @@ pub fn lent(image: &[u8], bytes: &[u8]) -> usize
     ensures upper_bound { result ≤ length bytes.now }
     ensures taken { result ≡ length (take result bytes.now) }
 {
-    let size = size_in(image) as usize;
-    let most = bytes.len();
-    if size < most { size } else { most }
+    bytes.len().min(size_in(image) as usize)
 }
 
 #[tactic(auto, unfolding(crate::specs::Rows::storage_row))]
 fn storage_row(image: &[u8]) -> Line
     ensures { text_of result ≡ storage_row image.now }
 {
-    let size = size_in(image) / 1024;
     Line::new()
         .text(b"storage      ")
-        .digits(size as u64)
+        .digits(u64::from(size_in(image) / 1024))
         .text(b" KiB")
 }
 
@@ -235,7 +242,13 @@ fn storage_row(image: &[u8]) -> Line
 fn granted(image: &[u8]) -> u32
     ensures { result ≡ granted_in image.now }
 {
-    word(image, layout::GRANTED_CYCLES) + 65536 * word(image, layout::GRANTED_CYCLES + 2)
+    let at = layout::GRANTED_CYCLES;
+    u32::from_le_bytes([
+        byte(image, at),
+        byte(image, at + 1),
+        byte(image, at + 2),
+        byte(image, at + 3),
+    ])
 }
 
 // The number is held at its top: there it says that there may have been more.
@@ -246,7 +259,7 @@ fn granted_row(image: &[u8]) -> Line
     let count = granted(image);
     let line = Line::new()
         .text(b"granted      ")
-        .decimal(count as u64)
+        .decimal(u64::from(count))
         .text(b" cycles");
     if count == u32::MAX {
         return line.text(b" or more");
@@ -256,6 +269,13 @@ fn granted_row(image: &[u8]) -> Line
 
 // ---- the transfer
 
+// An image with a number past the last type's is refused: it is taken as the last.
+fn running_type(image: &[u8]) -> TransferType
+    ensures { type_name (type_number result) ≡ type_name (byte_at image.now (place_of kind)) }
+{
+    TransferType::from_command(byte(image, layout::TYPE).min(3))
+}
+
 #[tactic(auto, unfolding(crate::specs::Rows::transfer_row))]
 fn transfer_row(image: &[u8]) -> Line
     ensures { text_of result ≡ transfer_row image.now }
@@ -264,7 +284,7 @@ fn transfer_row(image: &[u8]) -> Line
     if byte(image, layout::TRANSFER) == 0 {
         return line.text(b"none");
     }
-    let typed = type_name(line, byte(image, layout::TYPE));
+    let typed = line.text(type_name(running_type(image)));
     if byte(image, layout::PHASE) == 0 {
         return typed.text(b", read phase");
     }
@@ -275,7 +295,7 @@ fn transfer_row(image: &[u8]) -> Line
 fn remaining(image: &[u8]) -> u32
     ensures { result ≡ remaining_in image.now }
 {
-    length_of(word(image, layout::REMAINING) as u16)
+    length_of(word(image, layout::REMAINING))
 }
 
 fn place_row(c64: u32, expansion: u32, left: u32) -> Line
@@ -283,11 +303,11 @@ fn place_row(c64: u32, expansion: u32, left: u32) -> Line
 {
     Line::new()
         .text(b"  at         c64 ")
-        .hex4(c64)
+        .hex(4, c64)
         .text(b" exp ")
-        .hex6(expansion)
+        .hex(6, expansion)
         .text(b" left ")
-        .hex5(left)
+        .hex(5, left)
 }
 
 // Nothing where there is no transfer.
@@ -301,13 +321,13 @@ fn running_row(image: &[u8], row: usize) -> Line
     }
     match row {
         20 => place_row(
-            word(image, layout::TRANSFER_C64),
+            u32::from(word(image, layout::TRANSFER_C64)),
             long(image, layout::TRANSFER_EXPANSION),
             remaining(image),
         ),
         21 => line
             .text(b"  latch      ")
-            .hex2(byte(image, layout::LATCH))
+            .hex(2, u32::from(byte(image, layout::LATCH)))
             .bits(b" first=3 odd=4 tail=5", byte(image, layout::OPTIONS)),
         22 => line.bits(
             b"  options    fixc64=0 fixexp=1 load=2",
@@ -324,43 +344,36 @@ fn running_row(image: &[u8], row: usize) -> Line
 fn held_row(image: &[u8], row: usize) -> Line
     ensures { text_of result ≡ held_row image.now row }
 {
-    if row < 11 {
-        return register_row(image, row as u8);
+    match row {
+        0..=10 => register_row(image, row as u8),
+        11..=16 => flags_row(image, row),
+        17 => storage_row(image),
+        18 => granted_row(image),
+        19 => transfer_row(image),
+        _ => running_row(image, row),
     }
-    if row < 17 {
-        return flags_row(image, row);
-    }
-    if row == 17 {
-        return storage_row(image);
-    }
-    if row == 18 {
-        return granted_row(image);
-    }
-    if row == 19 {
-        return transfer_row(image);
-    }
-    running_row(image, row)
 }
 
 // That an image is refused is said in a row of its own, so that beside an accepted one it stands for none of its rows.
-#[tactic(auto, unfolding(crate::specs::Rows::refused_row))]
-fn refused_row(answer: u32, row: usize) -> Line
-    ensures { text_of result ≡ refused_row answer row }
+fn refused_row(refused: Refused, row: usize) -> Line
+    ensures { text_of result ≡ cond (eqb row 23) ([] ⊕ ascii "image        " ⊕ refused_as refused.number ⊕ ascii ": no controller") [] }
 {
     let line = Line::new();
     if row == 23 {
-        return refusal(line.text(b"image        "), answer).text(b": no controller");
+        return refused
+            .shown(line.text(b"image        "))
+            .text(b": no controller");
     }
     line
 }
 
-// A row of the pane. Every call refuses an image alike: one is asked, and of a refused image no byte is shown.
+// A row of the pane. Every call refuses an image alike: one is asked, and of a refused image no byte is shown. A row that a machine has not
+// is a line of no bytes, and no `None`: two panes compare it, mark it and set it beside another as they do any row.
 pub fn row(image: &[u8], row: usize) -> Line
     ensures { text_of result ≡ row_of image.now row }
 {
-    let answer = reu::reu_dma_active(image);
-    if is_accepted(answer) {
-        return held_row(image, row);
+    match answer(reu::reu_dma_active(image)) {
+        Ok(_) => held_row(image, row),
+        Err(refused) => refused_row(refused, row),
     }
-    refused_row(answer, row)
 }

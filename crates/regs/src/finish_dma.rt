@@ -25,8 +25,7 @@ pub fn marked(mut regs: [u8; REGISTER_COUNT], bits: u8, event: bool) -> [u8; REG
     ensures { result ≡ marked regs bits event }
 {
     if event {
-        let status = regs[STATUS];
-        regs[STATUS] = status | bits;
+        regs[STATUS] |= bits;
     }
     regs
 }
@@ -40,13 +39,16 @@ pub fn counters(
 ) -> [u8; REGISTER_COUNT]
     ensures { result ≡ counters regs c64 expansion length }
 {
-    regs[C64_ADDRESS_LOW] = (c64 % 256) as u8;
-    regs[C64_ADDRESS_HIGH] = ((c64 >> 8) % 256) as u8;
-    regs[REU_ADDRESS_LOW] = (expansion % 256) as u8;
-    regs[REU_ADDRESS_HIGH] = ((expansion >> 8) % 256) as u8;
-    regs[REU_ADDRESS_BANK] = ((expansion >> 16) % 256) as u8;
-    regs[TRANSFER_LENGTH_LOW] = (length % 256) as u8;
-    regs[TRANSFER_LENGTH_HIGH] = ((length >> 8) % 256) as u8;
+    let [c64_low, c64_high] = c64.to_le_bytes();
+    let [low, high, bank, _] = expansion.to_le_bytes();
+    let [length_low, length_high, _, _] = length.to_le_bytes();
+    regs[C64_ADDRESS_LOW] = c64_low;
+    regs[C64_ADDRESS_HIGH] = c64_high;
+    regs[REU_ADDRESS_LOW] = low;
+    regs[REU_ADDRESS_HIGH] = high;
+    regs[REU_ADDRESS_BANK] = bank;
+    regs[TRANSFER_LENGTH_LOW] = length_low;
+    regs[TRANSFER_LENGTH_HIGH] = length_high;
     regs
 }
 
@@ -71,7 +73,7 @@ pub fn autoloaded(
     ensures { result ≡ autoloaded regs autoload c64 expansion length }
 {
     if autoload {
-        return counters(regs, c64, expansion, length as u32);
+        return counters(regs, c64, expansion, u32::from(length));
     }
     regs
 }

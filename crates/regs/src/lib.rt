@@ -17,8 +17,5 @@ pub use constants::{
     TRANSFER_LENGTH_HIGH, TRANSFER_LENGTH_LOW, UNUSED_REGISTER_VALUE,
 };
 pub use finish_dma::{autoloaded, counters, finished, irq_due, marked};
-pub use registers::{
-    acknowledged, register_index, shown, with_bank32, with_high16, with_high32, with_low16,
-    with_low32,
-};
+pub use registers::{acknowledged, register_index, shown, with_bank, with_high, with_low};
 pub use start_dma::{length_of, requested};

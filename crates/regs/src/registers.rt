@@ -1,5 +1,5 @@
 // The register that an address selects, and what a byte of one holds.
-ghost use Rattle.std.specs.Prelude.{◌≡◌};
+ghost use Rattle.std.specs.Prelude.{◌≡◌, ◌<◌};
 ghost use Rattle.transfer.specs.Bytes.{with_bank, with_high, with_low};
 ghost use Rattle.regs.specs.Registers.{acknowledged, register_index, shown};
 
@@ -8,43 +8,36 @@ use crate::constants::{
     INTERRUPT_UNUSED_READ_HIGH, REGISTER_INDEX_MASK, REU_ADDRESS_BANK, STATUS_EVENT_MASK,
 };
 
-// A shadow's byte is replaced by a mask and a shift.
+// A byte of a shadow is replaced by a mask and a shift. A shadow of 16 bits stays one. Three functions, since a bank has nothing above it:
+// one with the byte's place as a parameter would test for that.
 
-pub fn with_low16(n: u16, v: u8) -> u16
-    ensures { result ≡ with_low n v }
+#[tactic(auto, using(crate::proofs::Laws::lowest_replaced))]
+pub fn with_low(n: u32, v: u8) -> u32
+    ensures value { result ≡ with_low n v }
+    ensures fits { n < 65536 → result < 65536 }
 {
-    (n & 0xFF00) | (v as u16)
+    (n & 0xFFFF_FF00) | u32::from(v)
 }
 
-pub fn with_high16(n: u16, v: u8) -> u16
-    ensures { result ≡ with_high n v }
+#[tactic(auto, using(crate::proofs::Laws::middle_replaced))]
+pub fn with_high(n: u32, v: u8) -> u32
+    ensures value { result ≡ with_high n v }
+    ensures fits { n < 65536 → result < 65536 }
 {
-    (n & 0x00FF) | ((v as u16) << 8)
+    (n & 0xFFFF_00FF) | (u32::from(v) << 8)
 }
 
-pub fn with_low32(n: u32, v: u8) -> u32
-    ensures { result ≡ with_low n v }
-{
-    (n & 0xFFFF_FF00) | (v as u32)
-}
-
-pub fn with_high32(n: u32, v: u8) -> u32
-    ensures { result ≡ with_high n v }
-{
-    (n & 0xFFFF_00FF) | ((v as u32) << 8)
-}
-
-pub fn with_bank32(n: u32, v: u8) -> u32
+pub fn with_bank(n: u32, v: u8) -> u32
     ensures { result ≡ with_bank n v }
 {
-    (n & 0x0000_FFFF) | ((v as u32) << 16)
+    (n & 0x0000_FFFF) | (u32::from(v) << 16)
 }
 
 // The register that an address selects.
 pub fn register_index(addr: u16) -> usize
     ensures { result ≡ register_index addr }
 {
-    (addr & REGISTER_INDEX_MASK) as usize
+    usize::from(addr & REGISTER_INDEX_MASK)
 }
 
 // A register's byte as it is kept and read: what is not connected is 1.

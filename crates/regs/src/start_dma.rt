@@ -17,14 +17,14 @@ use transfer::{
 fn word_of(lo: u8, hi: u8) -> u16
     ensures { result ≡ word lo hi }
 {
-    (lo as u16) | ((hi as u16) << 8)
+    u16::from_le_bytes([lo, hi])
 }
 
 // Two bytes with the bank above them.
 fn long_of(lo: u8, hi: u8, bank: u8) -> u32
     ensures { result ≡ long lo hi bank }
 {
-    (word_of(lo, hi) as u32) | ((bank as u32) << 16)
+    u32::from_le_bytes([lo, hi, bank, 0])
 }
 
 // Length 0 means 65,536, in the two length registers and in the two bytes that a saved transfer has for what remains.
@@ -35,7 +35,7 @@ pub fn length_of(n: u16) -> u32
     if n == 0 {
         FULL_64K_TRANSFER_LENGTH
     } else {
-        n as u32
+        u32::from(n)
     }
 }
 
@@ -45,23 +45,16 @@ pub fn requested(regs: [u8; REGISTER_COUNT]) -> DmaState
 {
     let command = regs[COMMAND];
     let control = regs[ADDRESS_CONTROL];
-    let c64 = word_of(regs[C64_ADDRESS_LOW], regs[C64_ADDRESS_HIGH]);
-    let reu = long_of(
-        regs[REU_ADDRESS_LOW],
-        regs[REU_ADDRESS_HIGH],
-        regs[REU_ADDRESS_BANK],
-    );
-    let length = word_of(regs[TRANSFER_LENGTH_LOW], regs[TRANSFER_LENGTH_HIGH]);
-    let transfer_type = TransferType::from_command(command);
-    let swap_phase = SwapPhase::ReadC64;
-    let c64_addr = C64Address(c64);
-    let reu_addr = ExpansionAddress(reu);
     DmaState {
-        transfer_type,
-        swap_phase,
-        c64_addr,
-        reu_addr,
-        remaining: length_of(length),
+        transfer_type: TransferType::from_command(command),
+        swap_phase: SwapPhase::ReadC64,
+        c64_addr: C64Address(word_of(regs[C64_ADDRESS_LOW], regs[C64_ADDRESS_HIGH])),
+        reu_addr: ExpansionAddress(long_of(
+            regs[REU_ADDRESS_LOW],
+            regs[REU_ADDRESS_HIGH],
+            regs[REU_ADDRESS_BANK],
+        )),
+        remaining: length_of(word_of(regs[TRANSFER_LENGTH_LOW], regs[TRANSFER_LENGTH_HIGH])),
         fix_c64: control & ADDRESS_CONTROL_FIX_C64 != 0,
         fix_reu: control & ADDRESS_CONTROL_FIX_REU != 0,
         autoload: command & COMMAND_AUTOLOAD != 0,

@@ -1,86 +1,113 @@
--- What a call of each family is, by what opening the image gave: o.
-use mathlib.Core.Path.{◌≡◌, sym, ap, ◌∙◌, subst}
-use mathlib.Core.List.{List}
-use Prim.Native.Nat.{ℕ}
-use lib.ListN.{length, get_or}
-use mir.Syntax.{w8}
-use mir.Val.{Fits}
-use Rattle.controller.specs.declared.reu.Answer.{Answer}
+-- What a call of each family is, by what opening the image i gave: a refusal, or a controller u.
+use Rattle.std.proofs.Common.{◌≡◌, ℕ, true, List, sym, ap, ◌∙◌, subst, refl, arith, ne_eqb, Bool, cond, Fits, w8}
+use Rattle.std.specs.Prelude.{Result, Ok, Err, get_or}
+use Rattle.controller.specs.declared.refusals.Refusal.{Refusal}
+use Rattle.controller.specs.declared.reu.Answered.{Answered}
+use Rattle.controller.specs.declared.reu.Step.{Step}
 use Rattle.controller.specs.declared.reu.Reu.{Reu}
-use Rattle.controller.specs.declared.reu.StepAnswer.{StepAnswer}
+use Rattle.controller.specs.Answers.{Answer, refusal_number, answer_of, step_answer_of}
 use Rattle.controller.specs.TickDma.{Ticked}
 use Rattle.controller.specs.Calls.{numbered}
-use Rattle.controller.proofs.Checked.{done, not_done}
-use Rattle.image.specs.declared.Opened.{Opened}
-use Rattle.image.specs.Layout.{image_size}
-use Rattle.image.specs.Open.{open_image}
-use Rattle.image.specs.Valid.{Bytes}
+use Rattle.controller.proofs.Checked.{done, not_done, refusal_some}
+use Rattle.image.specs.Open.{Opened, opened, open_image}
+use Rattle.image.specs.Valid.{Bytes, Typed}
 use Rattle.image.proofs.Opening.{opened_long, opened_is}
 use Rattle.image.proofs.Sound.{Sound}
-use Rattle.image.proofs.Valid.{open_sound}
-use Rattle.reu.specs.Exports.{refusal, code, changed, changed_storage, changed_both, look, change, change_storage, change_both}
+use Rattle.image.proofs.Valid.{open_sound, sound_typed, sound_well}
+use Rattle.image.specs.Layout.{pack_image}
+use Rattle.reu.specs.Exports.{refusal, code, image_after, changed, changed_storage, changed_both, look, change, change_storage, change_both}
+use Rattle.controller.specs.Refusals.{well_formed}
+use Rattle.reu.specs.Inner.{value_of, ended, Kept, Left}
+use Rattle.reu.proofs.Wholes.{Whole}
 
 -- the bytes of a slice are bytes
 pub bytes_of : (s : List ℕ) → ((j : ℕ) → Fits w8 (get_or s j 0)) → Bytes s
 bytes_of s given = record { below = λ j. (given j).fits }
 
-module _ (i : List ℕ) (o : Opened) (e : o ≡ open_image i) where
-  number : o.refusal ≡ (open_image i).refusal
-  number = ap (λ (y : Opened). y.refusal) e
+module _ (i : List ℕ) where
+  -- ---- refused: x is the number that is answered
+  module _ (e : Refusal) (h : opened (Err e) ≡ open_image i) where
+    number : refusal_number e ≡ (open_image i).refusal
+    number = ap (λ (y : Opened). y.refusal) h
 
-  -- x is the number that is answered
-  module _ (bad : o.refusal ≡ 0 → ⊥) (x : ℕ) (h : x ≡ refusal o.refusal) where
-    pub look_refused : (f : Reu → Answer) → x ≡ look f i
+    pub look_refused : (f : Reu → Answer) (x : ℕ) → x ≡ refusal (refusal_number e) → x ≡ look f i
     unfolding look
-    look_refused f = not_done o.refusal _ number refusal x _ bad h
+    look_refused f x q = not_done (refusal_number e) _ number refusal x _ (refusal_some e) q
 
-    pub change_refused : (f : Reu → Answer) → (x, i) ≡ change f i
+    pub change_refused : (f : Reu → Answer) (x : ℕ) → x ≡ refusal (refusal_number e) → (x, i) ≡ change f i
     unfolding change
-    change_refused f = not_done o.refusal _ number (λ n. (refusal n, i)) (x, i) _ bad (ap (λ (n : ℕ). (n, i)) h)
+    change_refused f x q = not_done (refusal_number e) _ number (λ n. (refusal n, i)) (x, i) _ (refusal_some e) (ap (λ (n : ℕ). (n, i)) q)
 
-    pub storage_refused : (s : List ℕ) (f : Reu → List ℕ → (Answer × List ℕ)) → (x, i, s) ≡ change_storage f i s
+    pub storage_refused : (s : List ℕ) (f : Reu → List ℕ → (Answer × List ℕ)) (x : ℕ) → x ≡ refusal (refusal_number e) → (x, i, s) ≡ change_storage f i s
     unfolding change_storage
-    storage_refused s f =
-        not_done o.refusal _ number (λ n. (refusal n, i, s)) (x, i, s) _ bad (ap (λ (n : ℕ). (n, i, s)) h)
+    storage_refused s f x q =
+        not_done (refusal_number e) _ number (λ n. (refusal n, i, s)) (x, i, s) _ (refusal_some e) (ap (λ (n : ℕ). (n, i, s)) q)
 
-    pub both_refused : (m s : List ℕ) (f : Reu → List ℕ → List ℕ → Ticked) → (x, i, m, s) ≡ change_both f i m s
+    pub both_refused : (m s : List ℕ) (f : Reu → List ℕ → List ℕ → Ticked) (x : ℕ) → x ≡ refusal (refusal_number e) → (x, i, m, s) ≡ change_both f i m s
     unfolding change_both
-    both_refused m s f =
-        not_done o.refusal _ number (λ n. (refusal n, i, m, s)) (x, i, m, s) _ bad (ap (λ (n : ℕ). (n, i, m, s)) h)
+    both_refused m s f x q =
+        not_done (refusal_number e) _ number (λ n. (refusal n, i, m, s)) (x, i, m, s) _ (refusal_some e) (ap (λ (n : ℕ). (n, i, m, s)) q)
 
-  module _ (good : o.refusal ≡ 0) where
-    pub long : length i ≡ image_size
-    long = opened_long i (sym number ∙ good)
+  -- ---- done: r is what the call on the controller answered
+  module _ (u : Reu) (h : opened (Ok u) ≡ open_image i) where
+    accepted : 0 ≡ (open_image i).refusal
+    accepted = ap (λ (y : Opened). y.refusal) h
 
-    pub sound : Bytes i → Sound o.reu
-    sound b =
-        subst (λ (y : Opened). Sound y.reu) (sym (e ∙ opened_is i (sym number ∙ good))) (open_sound i b (sym number ∙ good))
+    -- the number and the image by what the code does with r, and by the definitions
+    value_is : (r : Result (Answered ℕ) Refusal) → value_of r ≡ code (answer_of u r)
+    unfolding code
+    value_is (Ok a) = omega arith
+    value_is (Err e) = omega arith
 
-    -- a is what the call on the controller answered, with what it left; x what is answered and left
-    pub look_done : (f : Reu → Answer) (a : Answer) (x : ℕ) → a ≡ f o.reu → x ≡ code a → x ≡ look f i
+    ended_is : (r : Result (Answered ℕ) Refusal) → ended r i ≡ changed (answer_of u r) i
+    unfolding image_after
+    ended_is (Ok a) = ap (λ (n : ℕ). (n, pack_image a.reu)) (value_is (Ok a))
+    ended_is (Err e) =
+        ap (λ (n : ℕ). (n, i)) (value_is (Err e))
+        ∙ ap (λ (t : Bool). (code (answer_of u (Err e)), cond t (pack_image u) i)) (sym (ne_eqb (refusal_number e) 0 (refusal_some e)))
+
+    pub look_done : (f : Reu → Answer) (r : Result (Answered ℕ) Refusal) (x : ℕ) → answer_of u r ≡ f u → x ≡ value_of r → x ≡ look f i
     unfolding look
-    look_done f a x ha hx =
-        done o.refusal _ number refusal x _ good (hx ∙ ap code ha ∙ ap (λ (y : Opened). code (f y.reu)) e)
+    look_done f r x ha hx =
+        done 0 _ accepted refusal x _ refl (hx ∙ value_is r ∙ ap code ha ∙ ap (λ (y : Opened). code (f y.reu)) h)
 
-    pub change_done : (f : Reu → Answer) (a : Answer) (x : ℕ × List ℕ) → a ≡ f o.reu → x ≡ changed a i → x ≡ change f i
+    pub change_done : (f : Reu → Answer) (r : Result (Answered ℕ) Refusal) (x : ℕ) (j : List ℕ) → answer_of u r ≡ f u → (x, j) ≡ ended r i → (x, j) ≡ change f i
     unfolding change
-    change_done f a x ha hx =
-        done o.refusal _ number (λ n. (refusal n, i)) x _ good
-        (hx ∙ ap (λ (b : Answer). changed b i) ha ∙ ap (λ (y : Opened). changed (f y.reu) i) e)
+    change_done f r x j ha hx =
+        done 0 _ accepted (λ n. (refusal n, i)) (x, j) _ refl
+        (hx ∙ ended_is r ∙ ap (λ (b : Answer). changed b i) ha ∙ ap (λ (y : Opened). changed (f y.reu) i) h)
 
-    pub storage_done : (s : List ℕ) (f : Reu → List ℕ → (Answer × List ℕ)) (a : Answer) (t : List ℕ) (r : ℕ) (j : List ℕ)
-        → (a, t) ≡ f o.reu s → (r, j) ≡ changed a i → (r, j, t) ≡ change_storage f i s
+    pub storage_done : (s t : List ℕ) (f : Reu → List ℕ → (Answer × List ℕ)) (r : Result (Answered ℕ) Refusal) (x : ℕ) (j : List ℕ)
+        → (answer_of u r, t) ≡ f u s → (x, j) ≡ ended r i → (x, j, t) ≡ change_storage f i s
     unfolding change_storage
-    storage_done s f a t r j ha hx =
-        done o.refusal _ number (λ n. (refusal n, i, s)) (r, j, t) _ good
-        (ap (λ (y : ℕ × List ℕ). (y.0, y.1, t)) hx ∙ ap (λ (b : Answer × List ℕ). changed_storage b i) ha
-        ∙ ap (λ (y : Opened). changed_storage (f y.reu s) i) e)
+    storage_done s t f r x j ha hx =
+        done 0 _ accepted (λ n. (refusal n, i, s)) (x, j, t) _ refl
+        (ap (λ (y : ℕ × List ℕ). (y.0, y.1, t)) (hx ∙ ended_is r) ∙ ap (λ (b : Answer × List ℕ). changed_storage b i) ha
+        ∙ ap (λ (y : Opened). changed_storage (f y.reu s) i) h)
 
     -- n is the answer with its value as a number
-    pub both_done : (m s : List ℕ) (f : Reu → List ℕ → List ℕ → Ticked) (a : StepAnswer) (b t : List ℕ) (n : Answer) (r : ℕ) (j : List ℕ)
-        → (a, b, t) ≡ f o.reu m s → n ≡ numbered a → (r, j) ≡ changed n i → (r, j, b, t) ≡ change_both f i m s
+    pub both_done : (m s b t : List ℕ) (f : Reu → List ℕ → List ℕ → Ticked) (r : Result (Answered Step) Refusal) (n : Result (Answered ℕ) Refusal) (x : ℕ) (j : List ℕ)
+        → (step_answer_of u r, b, t) ≡ f u m s → answer_of u n ≡ numbered (step_answer_of u r) → (x, j) ≡ ended n i → (x, j, b, t) ≡ change_both f i m s
     unfolding change_both
-    both_done m s f a b t n r j ha hn hx =
-        done o.refusal _ number (λ n. (refusal n, i, m, s)) (r, j, b, t) _ good
-        (ap (λ (y : ℕ × List ℕ). (y.0, y.1, b, t)) (hx ∙ ap (λ (y : Answer). changed y i) hn) ∙ ap (λ (y : Ticked). changed_both y i) ha
-        ∙ ap (λ (y : Opened). changed_both (f y.reu m s) i) e)
+    both_done m s b t f r n x j ha hn hx =
+        done 0 _ accepted (λ n. (refusal n, i, m, s)) (x, j, b, t) _ refl
+        (ap (λ (y : ℕ × List ℕ). (y.0, y.1, b, t)) (hx ∙ ended_is n ∙ ap (λ (y : Answer). changed y i) hn) ∙ ap (λ (y : Ticked). changed_both y i) ha
+        ∙ ap (λ (y : Opened). changed_both (f y.reu m s) i) h)
+
+    -- what is left can be stored
+    pub sound : Bytes i → Sound u
+    sound b = subst (λ (y : Opened). Sound y.reu) (sym (h ∙ opened_is i (sym accepted))) (open_sound i b (sym accepted))
+
+    whole_kept : (r : Result (Answered ℕ) Refusal) → Whole (answer_of u r) → Kept r i
+    whole_kept (Ok a) w = (w, opened_long i (sym accepted))
+    whole_kept (Err e) w = tt
+
+    pub kept : (r : Result (Answered ℕ) Refusal) (a : Answer) → answer_of u r ≡ a → ((j : ℕ) → Fits w8 (get_or i j 0)) → (Sound u → Whole a) → Kept r i
+    kept r a e b w = whole_kept r (subst Whole (sym e) (w (sound (bytes_of i b))))
+
+    left_kept : (r : Result (Answered ℕ) Refusal) → Left r → Kept r i
+    left_kept (Ok a) w = (w, opened_long i (sym accepted))
+    left_kept (Err e) w = tt
+
+    pub kept_by : (r : Result (Answered ℕ) Refusal) → ((j : ℕ) → Fits w8 (get_or i j 0)) → (Typed u → well_formed u ≡ true → Left r) → Kept r i
+    kept_by r b w = let s = sound (bytes_of i b) in left_kept r (w (sound_typed u s) (sound_well u s))

@@ -1,7 +1,7 @@
 -- What each exported call answers, and what it leaves in what it is lent: i the image, m the bus, s the storage.
 use Rattle.std.specs.Prelude.{◌+◌, ◌*◌}
 use Rattle.controller.specs.Prelude.{ℕ, Bool, not, cond, List, eqb, length}
-use Rattle.controller.specs.declared.reu.Answer.{Answer}
+use Rattle.controller.specs.Answers.{Answer}
 use Rattle.controller.specs.declared.reu.Reu.{Reu}
 use Rattle.controller.specs.Enable.{new_reu}
 use Rattle.controller.specs.Refusals.{checked}

@@ -3,173 +3,158 @@
 #![tactic(auto)]
 
 ghost use Rattle.std.specs.Prelude.{◌≡◌};
-ghost use Rattle.reu.specs.Exports.{changed, code, refusal, reu_bus_action, reu_c64_access, reu_capacity_bytes, reu_cpu_ready, reu_cycle, reu_debug_register, reu_dma_active, reu_new, reu_read, reu_reset, reu_set_enabled, reu_set_size, reu_storage_present, reu_tick_dma, reu_trigger_ff00, reu_write};
-ghost use Rattle.reu.specs.Inner.{Carried, Kept};
+ghost use Rattle.controller.specs.Answers.{Answer, answer_of, refusal_number, step_answer_of};
+ghost use Rattle.controller.specs.Calls.{numbered};
+ghost use Rattle.controller.specs.declared.reu.Reu.{Reu};
+ghost use Rattle.reu.specs.Exports.{change, look, refusal, reu_bus_action, reu_c64_access, reu_capacity_bytes, reu_cpu_ready, reu_cycle, reu_debug_register, reu_dma_active, reu_new, reu_read, reu_reset, reu_set_enabled, reu_set_size, reu_storage_present, reu_tick_dma, reu_trigger_ff00, reu_write};
+ghost use Rattle.reu.specs.Inner.{Gives, Keeps, Kept, ended, value_of};
 
-use controller::{Answer, Reu};
+use controller::{Answered, Refusal, Reu, Step};
 
-// An answer is this times the refusal number, plus a value.
+// An answer is this times the refusal number, or a value.
 const REFUSAL_UNIT: u32 = 16_777_216;
 
-const ACCEPTED: u8 = 0;
-
-// A refusal's number as it is answered.
-fn refused(number: u8) -> u32
-    ensures { result ≡ refusal number }
+fn refused(reason: Refusal) -> u32
+    ensures { result ≡ refusal (refusal_number reason) }
 {
-    REFUSAL_UNIT * (number as u32)
+    REFUSAL_UNIT * u32::from(reason)
 }
 
-// The number that a call answers.
-fn code_of(answer: Answer) -> u32
-    requires { Carried answer }
-    ensures { result ≡ code answer }
+// A call that looks at the controller of an image.
+fn look<F: FnOnce(Reu) -> Result<Answered<u32>, Refusal>>(image: &[u8], call: F) -> u32
+    requires { F.IsAlwaysCallable call }
+    ensures { (f : Reu → Answer) → Gives F.post call f → result ≡ look f image.now }
 {
-    refused(answer.refusal) + answer.value
+    match image::open(image) {
+        Ok(reu) => value_of(call(reu)),
+        Err(reason) => refused(reason),
+    }
+}
+
+// A call that changes the controller of an image, which is laid down again.
+fn change<F: FnOnce(Reu) -> Result<Answered<u32>, Refusal>>(image: &mut [u8], call: F) -> u32
+    requires callable { F.IsAlwaysCallable call }
+    requires keeps { Keeps F.post call }
+    ensures { (f : Reu → Answer) → Gives F.post call f → (result, image.new) ≡ change f image.old }
+{
+    match image::open(image) {
+        Ok(reu) => finish(image, call(reu)),
+        Err(reason) => refused(reason),
+    }
+}
+
+// The end of a call that looks at the controller: its value, or the number of its refusal.
+fn value_of(answer: Result<Answered<u32>, Refusal>) -> u32
+    ensures { result ≡ value_of answer }
+{
+    match answer {
+        Ok(done) => done.value,
+        Err(reason) => refused(reason),
+    }
 }
 
 // The end of a call that changes the controller: the image is laid down, unless the call was refused. What a call leaves is in range, so
 // storing it is never refused.
-fn finish(image: &mut [u8], answer: Answer) -> u32
+#[tactic(auto, using(image::proofs::Opening::store_good))]
+fn finish(image: &mut [u8], answer: Result<Answered<u32>, Refusal>) -> u32
     requires { Kept answer image.old }
-    ensures { (result, image.new) ≡ changed answer image.old }
+    ensures { (result, image.new) ≡ ended answer image.old }
 {
-    if answer.refusal != ACCEPTED {
-        return code_of(answer);
+    match answer {
+        Ok(done) => match image::store(image, done.reu) {
+            Ok(()) => done.value,
+            Err(reason) => refused(reason),
+        },
+        Err(reason) => refused(reason),
     }
-    let reu = answer.reu;
-    image::store(image, reu);
-    code_of(answer)
+}
+
+// A step's answer with its value as a number.
+fn numbered(answer: Result<Answered<Step>, Refusal>) -> Result<Answered<u32>, Refusal>
+    ensures { (u : Reu) → answer_of u result ≡ numbered (step_answer_of u answer) }
+{
+    answer.map(Answered::from)
 }
 
 #[unsafe(no_mangle)]
 pub extern "C" fn reu_new(image: &mut [u8]) -> u32
     ensures { (result, image.new) ≡ reu_new image.old }
 {
-    refused(image::store(image, Reu::new()))
+    match image::store(image, Reu::new()) {
+        Ok(()) => 0,
+        Err(reason) => refused(reason),
+    }
 }
 
+#[tactic(auto, using(crate::proofs::Keeping::reset_keeps))]
 #[unsafe(no_mangle)]
 pub extern "C" fn reu_reset(image: &mut [u8], hard_reset: u32) -> u32
     ensures { (result, image.new) ≡ reu_reset image.old hard_reset }
 {
-    let opened = image::open(image);
-    let refusal = opened.refusal;
-    if refusal != ACCEPTED {
-        return refused(refusal);
-    }
-    let reu = opened.reu;
-    let answer = reu.reset(hard_reset != 0);
-    finish(image, answer)
+    change(image, |reu| reu.reset(hard_reset != 0))
 }
 
+#[tactic(auto, using(crate::proofs::Keeping::set_size_keeps))]
 #[unsafe(no_mangle)]
 pub extern "C" fn reu_set_size(image: &mut [u8], size: u64) -> u32
     ensures { (result, image.new) ≡ reu_set_size image.old size }
 {
-    let opened = image::open(image);
-    let refusal = opened.refusal;
-    if refusal != ACCEPTED {
-        return refused(refusal);
-    }
-    let reu = opened.reu;
-    let answer = reu.set_size(size);
-    finish(image, answer)
+    change(image, |reu| reu.set_size(size))
 }
 
 #[unsafe(no_mangle)]
 pub extern "C" fn reu_set_enabled(image: &mut [u8], storage: &mut [u8], enabled: u32) -> u32
     ensures { (result, image.new, storage.new) ≡ reu_set_enabled image.old storage.old enabled }
 {
-    let opened = image::open(image);
-    let refusal = opened.refusal;
-    if refusal != ACCEPTED {
-        return refused(refusal);
+    match image::open(image) {
+        Ok(reu) => finish(image, reu.set_enabled(storage, enabled != 0)),
+        Err(reason) => refused(reason),
     }
-    let reu = opened.reu;
-    let answer = reu.set_enabled(storage, enabled != 0);
-    finish(image, answer)
 }
 
 #[unsafe(no_mangle)]
 pub extern "C" fn reu_storage_present(image: &[u8]) -> u32
     ensures { result ≡ reu_storage_present image.now }
 {
-    let opened = image::open(image);
-    let refusal = opened.refusal;
-    if refusal != ACCEPTED {
-        return refused(refusal);
-    }
-    let reu = opened.reu;
-    code_of(reu.storage_present())
+    look(image, |reu| reu.storage_present())
 }
 
 #[unsafe(no_mangle)]
 pub extern "C" fn reu_capacity_bytes(image: &[u8]) -> u32
     ensures { result ≡ reu_capacity_bytes image.now }
 {
-    let opened = image::open(image);
-    let refusal = opened.refusal;
-    if refusal != ACCEPTED {
-        return refused(refusal);
-    }
-    let reu = opened.reu;
-    code_of(reu.capacity_bytes())
+    look(image, |reu| reu.capacity_bytes())
 }
 
+#[tactic(auto, using(crate::proofs::Keeping::trigger_keeps))]
 #[unsafe(no_mangle)]
 pub extern "C" fn reu_trigger_ff00(image: &mut [u8]) -> u32
     ensures { (result, image.new) ≡ reu_trigger_ff00 image.old }
 {
-    let opened = image::open(image);
-    let refusal = opened.refusal;
-    if refusal != ACCEPTED {
-        return refused(refusal);
-    }
-    let reu = opened.reu;
-    let answer = reu.trigger_ff00();
-    finish(image, answer)
+    change(image, |reu| reu.trigger_ff00())
 }
 
+#[tactic(auto, using(crate::proofs::Keeping::read_keeps))]
 #[unsafe(no_mangle)]
 pub extern "C" fn reu_read(image: &mut [u8], addr: u16) -> u32
     ensures { (result, image.new) ≡ reu_read image.old addr }
 {
-    let opened = image::open(image);
-    let refusal = opened.refusal;
-    if refusal != ACCEPTED {
-        return refused(refusal);
-    }
-    let reu = opened.reu;
-    let answer = reu.read(addr);
-    finish(image, answer)
+    change(image, |reu| reu.read(addr))
 }
 
+#[tactic(auto, using(crate::proofs::Keeping::write_keeps))]
 #[unsafe(no_mangle)]
 pub extern "C" fn reu_write(image: &mut [u8], addr: u16, value: u8) -> u32
     ensures { (result, image.new) ≡ reu_write image.old addr value }
 {
-    let opened = image::open(image);
-    let refusal = opened.refusal;
-    if refusal != ACCEPTED {
-        return refused(refusal);
-    }
-    let reu = opened.reu;
-    let answer = reu.write(addr, value);
-    finish(image, answer)
+    change(image, |reu| reu.write(addr, value))
 }
 
 #[unsafe(no_mangle)]
 pub extern "C" fn reu_dma_active(image: &[u8]) -> u32
     ensures { result ≡ reu_dma_active image.now }
 {
-    let opened = image::open(image);
-    let refusal = opened.refusal;
-    if refusal != ACCEPTED {
-        return refused(refusal);
-    }
-    let reu = opened.reu;
-    code_of(reu.dma_active())
+    look(image, |reu| reu.dma_active())
 }
 
 #[unsafe(no_mangle)]
@@ -182,54 +167,35 @@ pub extern "C" fn reu_bus_action(
 ) -> u32
     ensures { (result, image.new, storage.new) ≡ reu_bus_action image.old storage.old ba_high ba_high_phi1 cycle }
 {
-    let opened = image::open(image);
-    let refusal = opened.refusal;
-    if refusal != ACCEPTED {
-        return refused(refusal);
+    match image::open(image) {
+        Ok(reu) => finish(
+            image,
+            reu.bus_action(storage, ba_high != 0, ba_high_phi1 != 0, cycle),
+        ),
+        Err(reason) => refused(reason),
     }
-    let reu = opened.reu;
-    let answer = reu.bus_action(storage, ba_high != 0, ba_high_phi1 != 0, cycle);
-    finish(image, answer)
 }
 
+#[tactic(auto, using(crate::proofs::Keeping::cpu_ready_keeps))]
 #[unsafe(no_mangle)]
 pub extern "C" fn reu_cpu_ready_after_dma(image: &mut [u8], ba_high: u32) -> u32
     ensures { (result, image.new) ≡ reu_cpu_ready image.old ba_high }
 {
-    let opened = image::open(image);
-    let refusal = opened.refusal;
-    if refusal != ACCEPTED {
-        return refused(refusal);
-    }
-    let reu = opened.reu;
-    let answer = reu.cpu_ready_after_dma(ba_high != 0);
-    finish(image, answer)
+    change(image, |reu| reu.cpu_ready_after_dma(ba_high != 0))
 }
 
 #[unsafe(no_mangle)]
 pub extern "C" fn reu_debug_register(image: &[u8], index: u64) -> u32
     ensures { result ≡ reu_debug_register image.now index }
 {
-    let opened = image::open(image);
-    let refusal = opened.refusal;
-    if refusal != ACCEPTED {
-        return refused(refusal);
-    }
-    let reu = opened.reu;
-    code_of(reu.debug_register(index))
+    look(image, |reu| reu.debug_register(index))
 }
 
 #[unsafe(no_mangle)]
 pub extern "C" fn reu_c64_access(image: &[u8]) -> u32
     ensures { result ≡ reu_c64_access image.now }
 {
-    let opened = image::open(image);
-    let refusal = opened.refusal;
-    if refusal != ACCEPTED {
-        return refused(refusal);
-    }
-    let reu = opened.reu;
-    code_of(reu.c64_access())
+    look(image, |reu| reu.c64_access())
 }
 
 #[unsafe(no_mangle)]
@@ -242,14 +208,13 @@ pub extern "C" fn reu_tick_dma(
 ) -> u32
     ensures { (result, image.new, bus.new, storage.new) ≡ reu_tick_dma image.old bus.old storage.old cycle ba_low }
 {
-    let opened = image::open(image);
-    let refusal = opened.refusal;
-    if refusal != ACCEPTED {
-        return refused(refusal);
+    match image::open(image) {
+        Ok(reu) => finish(
+            image,
+            numbered(reu.tick_dma(bus, storage, cycle, ba_low != 0)),
+        ),
+        Err(reason) => refused(reason),
     }
-    let reu = opened.reu;
-    let answer = reu.tick_dma(bus, storage, cycle, ba_low != 0);
-    finish(image, answer.numbered())
 }
 
 #[unsafe(no_mangle)]
@@ -264,19 +229,13 @@ pub extern "C" fn reu_run_reu_cycle(
 ) -> u32
     ensures { (result, image.new, bus.new, storage.new) ≡ reu_cycle image.old bus.old storage.old ba_high cycle ba_low ba_high_phi1 }
 {
-    let opened = image::open(image);
-    let refusal = opened.refusal;
-    if refusal != ACCEPTED {
-        return refused(refusal);
+    match image::open(image) {
+        Ok(reu) => {
+            let high = ba_high != 0;
+            let high_phi1 = ba_high_phi1 != 0;
+            let answer = reu.run_reu_cycle(bus, storage, high, high_phi1, cycle, ba_low != 0);
+            finish(image, numbered(answer))
+        }
+        Err(reason) => refused(reason),
     }
-    let reu = opened.reu;
-    let answer = reu.run_reu_cycle(
-        bus,
-        storage,
-        ba_high != 0,
-        ba_high_phi1 != 0,
-        cycle,
-        ba_low != 0,
-    );
-    finish(image, answer.numbered())
 }

@@ -1,25 +1,15 @@
--- A row of a script is one number: an operation, a place of 24 bits and a value of 16 bits. Above them, in 8 bits each, it says
--- which column of the line is added to its place, and which to its value.
-use Rattle.std.specs.Prelude.{ℕ, ◌+◌, ◌*◌, ◌/◌, ◌%◌, ◌^◌, cond, eqb}
+-- The numbers of a row, with the columns of a line filled in.
+use Rattle.std.specs.Prelude.{ℕ, ◌+◌, get_or}
+use Rattle.script.specs.declared.rows.Line.{Line}
+use Rattle.script.specs.declared.rows.Number.{Number}
+use Rattle.script.specs.declared.rows.Number.TheVariants.{Just, Column, Plus}
 
-abbrev pub operation_of : ℕ → ℕ
-operation_of row = row / 2 ^ 40
+-- column k of a line, counted from 0: what it has not is 0
+abbrev pub column_of : Line → ℕ → ℕ
+column_of l k = get_or l.1.now k 0
 
-abbrev pub place_of : ℕ → ℕ
-place_of row = row / 2 ^ 16 % 2 ^ 24
-
-abbrev pub value_of : ℕ → ℕ
-value_of row = row % 2 ^ 16
-
--- the last one, two or four hexadecimal digits of a number; there is no column of any other width
-unfoldable pub last_digits : ℕ → ℕ → ℕ
-last_digits width n =
-    cond (eqb width 1) (n % 16) (cond (eqb width 2) (n % 256) (cond (eqb width 4) (n % 65536) 0))
-
--- a column of a line: its code is 16 times its width plus the number of its last digit, as counted from the right
-abbrev pub column_of : ℕ → ℕ → ℕ
-column_of line code = last_digits (code / 16) (line / 16 ^ (code % 16))
-
--- the row with its columns added
-abbrev pub filled_of : ℕ → ℕ → ℕ
-filled_of line row = row % 2 ^ 48 + column_of line (row / 2 ^ 56) * 2 ^ 16 + column_of line (row / 2 ^ 48 % 256)
+-- a number as it stands, a column, or both, added
+abbrev pub number_of : Line → Number → ℕ
+number_of l (Just n) = n
+number_of l (Column k) = column_of l k
+number_of l (Plus n k) = n + column_of l k

@@ -1,104 +1,64 @@
 // Rows of bus cycles.
-ghost use Rattle.std.specs.Prelude.{◌≡◌, true, ◌-◌};
-ghost use Rattle.script.specs.Operations.{cycle_row, cycles_row, grant_row, play_cycles};
+ghost use Rattle.std.specs.Prelude.{◌+◌, ◌<◌, ◌^◌};
+ghost use Rattle.script.specs.Lent.{Plays};
+ghost use Rattle.script.specs.Operations.{cycle_row, cycles_row, grant_row};
 
-use crate::operations;
+use crate::machine::Machine;
+use crate::rows::Inputs;
+use transfer::ReuBusAction;
 
-const TRANSFER: u32 = crate::TRANSFER as u32;
+const TRANSFER: u32 = ReuBusAction::Transfer as u32;
 
 // An answer below this is no refusal.
 const REFUSAL_UNIT: u32 = 16_777_216;
 
-// One cycle: it answers as it should.
-fn answered(
-    cycle: u64,
-    answer: u32,
-    ba_high: u32,
-    ba_high_phi1: u32,
-    image: &mut [u8],
-    bus: &mut [u8],
-    storage: &mut [u8],
-) -> bool
-    ensures { (result, image.new, bus.new, storage.new) ≡ cycle_row ba_high ba_high_phi1 answer cycle image.old bus.old storage.old }
-{
-    reu::reu_run_reu_cycle(image, bus, storage, ba_high, cycle, 0, ba_high_phi1) == answer
-}
-
-// The cycles from the first up to the last, which is left out: each answers as it should.
-#[tactic(auto, unfolding(crate::specs::Operations::play_cycles))]
-fn ticks(
-    first: u64,
-    last: u64,
-    ba_high: u32,
-    ba_high_phi1: u32,
-    answer: u32,
-    image: &mut [u8],
-    bus: &mut [u8],
-    storage: &mut [u8],
-) -> bool
-    ensures { (result, image.new, bus.new, storage.new) ≡ play_cycles ba_high ba_high_phi1 answer (last - first) first (true, image.old, bus.old, storage.old) }
-{
-    let mut agree = true;
-    for cycle in first..last {
-        agree = agree & answered(cycle, answer, ba_high, ba_high_phi1, image, bus, storage);
-    }
-    agree
-}
-
-// One cycle in two calls.
-fn granted(
-    cycle: u64,
-    value: u32,
-    ba_high: u32,
-    ba_high_phi1: u32,
-    image: &mut [u8],
-    bus: &mut [u8],
-    storage: &mut [u8],
-) -> bool
-    ensures { (result, image.new, bus.new, storage.new) ≡ grant_row ba_high ba_high_phi1 cycle value image.old bus.old storage.old }
-{
-    let action = reu::reu_bus_action(image, storage, ba_high, ba_high_phi1, cycle);
-    if action == TRANSFER {
-        let ticked = reu::reu_tick_dma(image, bus, storage, cycle, 0);
-        return (value == TRANSFER) & (ticked < REFUSAL_UNIT);
-    }
-    action == value
-}
-
-#[tactic(auto, unfolding(crate::specs::Operations::cycles_row))]
-pub(crate) fn on_cycles(
-    operation: u64,
-    place: u32,
-    value: u32,
-    image: &mut [u8],
-    bus: &mut [u8],
-    storage: &mut [u8],
-) -> bool
-    ensures { (result, image.new, bus.new, storage.new) ≡ cycles_row operation place value image.old bus.old storage.old }
-{
-    let ba_high = (operation % 2) as u32;
-    let ba_high_phi1 = (operation / operations::BA_HIGH_PHI1 % 2) as u32;
-    let first = place as u64;
-    if operation < operations::GRANTS {
-        let answer = (operation / operations::TRUE % 2) as u32;
-        let last = first + value as u64;
-        return ticks(
-            first,
-            last,
-            ba_high,
-            ba_high_phi1,
-            answer,
-            image,
-            bus,
-            storage,
+impl Machine<'_> {
+    // One cycle: it answers as it should.
+    pub(crate) fn answers(&mut self, inputs: Inputs, cycle: u64, answer: u64) -> bool
+        ensures { Plays (cycle_row inputs answer cycle) self.old result self.new }
+    {
+        let answered = reu::reu_run_reu_cycle(
+            self.image,
+            self.bus,
+            self.storage,
+            u32::from(inputs.ba_high),
+            cycle,
+            0,
+            u32::from(inputs.ba_high_phi1),
         );
+        u64::from(answered) == answer
     }
-    // Two bits are inputs.
-    if operation < operations::GRANTS + 4 {
-        return granted(first, value, ba_high, ba_high_phi1, image, bus, storage);
+
+    // Cycles from the first on, as many as there should be: each answers as it should.
+    #[tactic(auto, unfolding(crate::specs::Operations::play_cycles), using(crate::proofs::Runs::tick))]
+    pub(crate) fn ticks(&mut self, inputs: Inputs, first: u64, count: u64, answer: u64) -> bool
+        requires { first + count < 2 ^ 64 }
+        ensures { Plays (cycles_row inputs answer count first) self.old result self.new }
+    {
+        let mut agree = true;
+        for cycle in first..first + count {
+            agree &= self.answers(inputs, cycle, answer);
+        }
+        agree
     }
-    if operation < operations::ANSWERS + 4 {
-        return answered(first, value, ba_high, ba_high_phi1, image, bus, storage);
+
+    // One cycle in two calls.
+    #[tactic(auto, unfolding(crate::specs::Operations::tick_row))]
+    pub(crate) fn grants(&mut self, inputs: Inputs, cycle: u64, grant: ReuBusAction) -> bool
+        ensures { Plays (grant_row inputs cycle grant) self.old result self.new }
+    {
+        let action = reu::reu_bus_action(
+            self.image,
+            self.storage,
+            u32::from(inputs.ba_high),
+            u32::from(inputs.ba_high_phi1),
+            cycle,
+        );
+        let agree = action == grant as u32;
+        if action == TRANSFER {
+            let ticked = reu::reu_tick_dma(self.image, self.bus, self.storage, cycle, 0);
+            return agree & (ticked < REFUSAL_UNIT);
+        }
+        agree
     }
-    false
 }

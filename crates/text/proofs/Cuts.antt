@@ -1,12 +1,14 @@
--- Lines that are made longer, and what does not fit; digits in parts.
+-- Lines that are made longer, and what does not fit.
 use mathlib.Core.Path.{◌≡◌, refl, sym, ◌∙◌, ap}
+use mathlib.Core.Bool.{false≢true}
 use mathlib.Core.List.{List, [], ◌∷◌, ◌++◌, append_assoc, append-nil}
-use Prim.Native.Nat.{ℕ, zero, suc, ◌+◌, ◌/◌, ◌%◌, ◌≤◌, ◌<◌}
-use native.Mathlib.Numerals.{add-one}
+use Prim.Native.Nat.{ℕ, zero, suc, ◌+◌, ◌≤◌, ◌<◌}
 use native.Mathlib.Omega.{arith}
-use lib.ListN.{length, take, set, length-take, length-append}
-use lib.Seq.{take-suc-set, take-append-le, take_all}
-use Rattle.text.specs.Shown.{◌⊕◌, hex_digit, hex_of}
+use lib.ListN.{length, take, length-take, length-append}
+use lib.Seq.{take-append-add, take_all}
+use Rattle.std.specs.Prelude.{Result, Ok, Err, IsOk, OnOk, OnErr, ◌↔◌}
+use Rattle.arrayvec.specs.ArrayVec.{ArrayVec}
+use Rattle.text.specs.Shown.{◌⊕◌}
 
 again : (n : ℕ) (x y : List ℕ) → take n (take n x ++ y) ≡ take n (x ++ y)
 again zero x y = refl
@@ -25,67 +27,45 @@ joined t a b {u} {v} p q = q ∙ ap (λ (l : List ℕ). l ⊕ b) p ∙ both t a 
 pub then : (b : List ℕ) {t u v : List ℕ} → u ≡ t → v ≡ u ⊕ b → v ≡ t ⊕ b
 then b p q = q ∙ ap (λ (l : List ℕ). l ⊕ b) p
 
-module _ (bytes : List ℕ) (used b : ℕ) (n : length bytes ≡ 160) where
-  pub room : used < 160 → take (used + 1) (set bytes used b) ≡ take used bytes ⊕ (b ∷ [])
-  unfolding ◌⊕◌
-  room h =
-      let inside : used < length bytes = omega arith in
-      rw (add-one, take-suc-set bytes used b inside)
-      (sym (take_all 160 (take used bytes ++ (b ∷ [])) (rw (length-append, length-take) (omega arith))))
-
-  pub full : 160 ≤ used → take used bytes ≡ take used bytes ⊕ (b ∷ [])
-  unfolding ◌⊕◌
-  full h =
-      let whole : take used bytes ≡ bytes = take_all used bytes (omega arith) in
-      rw whole (sym (take-append-le 160 bytes (b ∷ []) (omega arith) ∙ take_all 160 bytes (omega arith)))
+-- what fits is all there
+pub room : (t s : List ℕ) → length t + length s ≤ 160 → t ++ s ≡ t ⊕ s
+unfolding ◌⊕◌
+room t s h = sym (take_all 160 (t ++ s) (rw length-append h))
 
 -- nothing more
-pub none : (bytes : List ℕ) (used : ℕ) → length bytes ≡ 160 → take used bytes ≡ take used bytes ⊕ []
+pub none : (t : List ℕ) → length t ≤ 160 → t ≡ t ⊕ []
+none t h = sym (append-nil t) ∙ room t [] (omega arith)
+
+-- as much as there is room for
+pub part : (t s : List ℕ) (n : ℕ) → n + length t ≡ 160 → t ++ take n s ≡ t ⊕ s
 unfolding ◌⊕◌
-none bytes used n = rw append-nil (sym (take_all 160 (take used bytes) (rw length-take (omega arith))))
+part t s n h =
+    let e : 160 ≡ length t + n = omega arith in
+    sym (ap (λ (k : ℕ). take k (t ++ s)) e ∙ take-append-add t s n)
 
--- digits in two parts
-pub two : (n : ℕ) → hex_of 1 (n / 16) ++ hex_of 1 n ≡ hex_of 2 n
-unfolding hex_of
-two n = refl
+-- what `try_push` leaves
+pub pushed : {T E : Type 0} (r : Result T E) (old new : ArrayVec ℕ) (b : ℕ)
+    → (IsOk r ↔ (length old.items < 160)) → OnOk r (new.items ≡ old.items ++ (b ∷ [])) → OnErr r (new ≡ old)
+    → OnErr r (length old.items ≡ 160) → new.items ≡ old.items ⊕ (b ∷ [])
+pushed (Ok x) old new b v p q f = let h : length old.items < 160 = v.0 refl in p ∙ room old.items (b ∷ []) (omega arith)
+pushed (Err x) old new b v p q f =
+    ap (λ (a : ArrayVec ℕ). a.items) q ∙ sym (append-nil old.items) ∙ part old.items (b ∷ []) 0 (omega arith)
 
-pub four : (n : ℕ) → hex_of 2 (n / 256 % 256) ++ hex_of 2 (n % 256) ≡ hex_of 4 n
-unfolding hex_of
-four n =
-    let a : n / 256 % 256 / 16 % 16 ≡ n / 16 / 16 / 16 % 16 = omega arith in
-    let b : n / 256 % 256 % 16 ≡ n / 16 / 16 % 16 = omega arith in
-    let c : n % 256 / 16 % 16 ≡ n / 16 % 16 = omega arith in
-    let d : n % 256 % 16 ≡ n % 16 = omega arith in
-    λ i. hex_digit (a i) ∷ (hex_digit (b i) ∷ (hex_digit (c i) ∷ (hex_digit (d i) ∷ [])))
+-- what `try_extend_from_slice` leaves, where it is given as much as there is room for
+pub extended : {T E : Type 0} (r : Result T E) (old new : ArrayVec ℕ) (s first : List ℕ) (n : ℕ)
+    → n + length old.items ≡ 160 → first ≡ take n s → (IsOk r ↔ (length old.items + length first ≤ 160))
+    → OnOk r (new.items ≡ old.items ++ first) → new.items ≡ old.items ⊕ s
+extended (Ok x) old new s first n h e v p = p ∙ ap (λ (l : List ℕ). old.items ++ l) e ∙ part old.items s n h
+extended (Err x) old new s first n h e v p =
+    let short : length first ≤ n = rw (e, length-take) (omega arith) in
+    absurd (false≢true (v.1 (omega arith)))
 
-pub five : (n : ℕ) → hex_of 1 (n / 65536 % 16) ++ hex_of 4 n ≡ hex_of 5 n
-unfolding hex_of
-five n = let a : n / 65536 % 16 % 16 ≡ n / 16 / 16 / 16 / 16 % 16 = omega arith in ap (λ (d : ℕ). hex_digit d ∷ hex_of 4 n) a
-
-pub six : (n : ℕ) → hex_of 2 (n / 65536 % 256) ++ hex_of 4 n ≡ hex_of 6 n
-unfolding hex_of
-six n =
-    let a : n / 65536 % 256 / 16 % 16 ≡ n / 16 / 16 / 16 / 16 / 16 % 16 = omega arith in
-    let b : n / 65536 % 256 % 16 ≡ n / 16 / 16 / 16 / 16 % 16 = omega arith in
-    λ i. hex_digit (a i) ∷ (hex_digit (b i) ∷ hex_of 4 n)
-
--- a loop that puts a text into a line: so far the line fits, and it becomes `goal` with what is left of the text
-pub record Left (goal line rest : List ℕ) : Type 0 where
-  pub fits : line ≡ line ⊕ []
-  pub says : goal ≡ line ⊕ rest
-
--- before the first turn
-pub begun : (line rest : List ℕ) → line ≡ line ⊕ [] → Left (line ⊕ rest) line rest
-begun line rest p = record { fits = p; says = refl }
+-- ---- a loop that puts a text into a line: the line becomes `goal` with what is left of the text
 
 -- a turn puts the first part of what is left
-pub onward : (line a b : List ℕ) {goal rest next : List ℕ} → rest ≡ a ++ b → Left goal line rest → next ≡ line ⊕ a → Left goal next b
-onward line a b e l p =
-    record {
-      fits = p ∙ sym (both line a [] ∙ ap (λ (s : List ℕ). line ⊕ s) (append-nil a)) ∙ ap (λ (s : List ℕ). s ⊕ []) (sym p);
-      says = l.says ∙ ap (λ (s : List ℕ). line ⊕ s) e ∙ sym (both line a b) ∙ ap (λ (s : List ℕ). s ⊕ b) (sym p);
-    }
+pub onward : (line a b : List ℕ) {goal rest next : List ℕ} → rest ≡ a ++ b → goal ≡ line ⊕ rest → next ≡ line ⊕ a → goal ≡ next ⊕ b
+onward line a b e l p = l ∙ ap (λ (s : List ℕ). line ⊕ s) e ∙ sym (both line a b) ∙ ap (λ (s : List ℕ). s ⊕ b) (sym p)
 
 -- nothing is left
-pub ended : {goal line rest : List ℕ} → rest ≡ [] → Left goal line rest → line ≡ goal
-ended {goal} {line} e l = l.fits ∙ ap (λ (s : List ℕ). line ⊕ s) (sym e) ∙ sym l.says
+pub ended : (line : List ℕ) {goal rest : List ℕ} → length line ≤ 160 → rest ≡ [] → goal ≡ line ⊕ rest → line ≡ goal
+ended line h e l = none line h ∙ ap (λ (s : List ℕ). line ⊕ s) (sym e) ∙ sym l

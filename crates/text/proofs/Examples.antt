@@ -1,6 +1,7 @@
 -- Worked examples of the definitions, with what was expected written by hand: words and numbers.
 use mathlib.Core.Path.{◌≡◌, refl}
-use Rattle.text.specs.declared.number.Number.TheVariants.{Value, TooLarge, Bad}
+use Rattle.std.specs.Prelude.{Ok, Err}
+use Rattle.text.specs.declared.number.NumberFault.TheVariants.{Bad, TooLarge}
 use Rattle.text.specs.Faults.{fault_of, faults_from, faults_of}
 use Rattle.text.specs.Shown.{◌⊕◌, ascii, bits_from, bits_of, decimal_of, decimal_up_to, fill_from, hex_of}
 use Rattle.text.specs.Typed.{digits_from, number_of, word_from, word_of, words_from, words_of}
@@ -15,19 +16,19 @@ three_words : words_of (ascii " w DF02 00 ") ≡ 3
 unfolding words_from
 three_words = refl
 
-sixteen : number_of (ascii "+16") ≡ Value 16
+sixteen : number_of (ascii "+16") ≡ Ok 16
 unfolding digits_from number_of
 sixteen = refl
 
-with_dollar : number_of (ascii "$10") ≡ Value 16
+with_dollar : number_of (ascii "$10") ≡ Ok 16
 unfolding digits_from number_of
 with_dollar = refl
 
-no_digit : number_of (ascii "1G") ≡ Bad
+no_digit : number_of (ascii "1G") ≡ Err Bad
 unfolding digits_from number_of
 no_digit = refl
 
-too_many_bits : number_of (ascii "1000000") ≡ TooLarge
+too_many_bits : number_of (ascii "1000000") ≡ Err TooLarge
 unfolding digits_from number_of
 too_many_bits = refl
 

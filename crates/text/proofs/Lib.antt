@@ -1,7 +1,8 @@
 pub mod Bits
 pub mod Cuts
 pub mod Decimals
-pub mod Digits
 pub mod Examples
-pub mod Tables
-pub mod Words
+pub mod Numerals
+pub mod Parts
+pub mod Said
+pub mod Same

@@ -1,7 +1,7 @@
 -- What an author types: words, and numbers in hexadecimal with an optional $ or in decimal with a leading +.
-use Rattle.std.specs.Prelude.{ℕ, ◌+◌, ◌-◌, ◌*◌, Bool, true, false, cond, List, [], ◌∷◌, ◌++◌, ltb, leb, eqb, length, drop, get_or}
-use Rattle.text.specs.declared.number.Number.{Number}
-use Rattle.text.specs.declared.number.Number.TheVariants.{Value, TooLarge, Bad}
+use Rattle.std.specs.Prelude.{ℕ, ◌+◌, ◌-◌, ◌*◌, Bool, true, false, cond, List, [], ◌∷◌, ◌++◌, ltb, leb, eqb, length, drop, get_or, Result, Ok, Err}
+use Rattle.text.specs.declared.number.NumberFault.{NumberFault}
+use Rattle.text.specs.declared.number.NumberFault.TheVariants.{Bad, TooLarge}
 
 -- ---- words
 
@@ -48,25 +48,24 @@ digit_of b =
     (cond (ltb b 103) (b - 87) 16)))))
 
 -- what digits say that follow a value, from the left: a character that is no digit of the base is bad, 24 bits are the most
-unfoldable pub digits_from : ℕ → ℕ → List ℕ → Number
-digits_from base value [] = Value value
+unfoldable pub digits_from : ℕ → ℕ → List ℕ → Result ℕ NumberFault
+digits_from base value [] = Ok value
 digits_from base value (b ∷ s) =
-    cond (leb base (digit_of b)) Bad
-    (cond (ltb 16777215 (value * base + digit_of b)) TooLarge (digits_from base (value * base + digit_of b) s))
+    cond (leb base (digit_of b)) (Err Bad)
+    (cond (ltb 16777215 (value * base + digit_of b)) (Err TooLarge) (digits_from base (value * base + digit_of b) s))
 
 -- the digits of `s` from a place on; none at all is bad
-abbrev pub digits_of : ℕ → List ℕ → ℕ → Number
-digits_of base s from = cond (leb (length s) from) Bad (digits_from base 0 (drop from s))
+abbrev pub digits_of : ℕ → List ℕ → ℕ → Result ℕ NumberFault
+digits_of base s from = cond (leb (length s) from) (Err Bad) (digits_from base 0 (drop from s))
 
 -- 43 is +, 36 is $
-unfoldable pub number_of : List ℕ → Number
+unfoldable pub number_of : List ℕ → Result ℕ NumberFault
 number_of s =
-    cond (eqb (length s) 0) Bad
+    cond (eqb (length s) 0) (Err Bad)
     (cond (eqb (get_or s 0 0) 43) (digits_of 10 s 1)
     (cond (eqb (get_or s 0 0) 36) (digits_of 16 s 1) (digits_of 16 s 0)))
 
 -- its value; 0 for what is none
-abbrev pub value_of : Number → ℕ
-value_of (Value n) = n
-value_of TooLarge = 0
-value_of Bad = 0
+abbrev pub value_of : Result ℕ NumberFault → ℕ
+value_of (Ok n) = n
+value_of (Err fault) = 0

@@ -1,69 +1,54 @@
-// What is wrong with a number that was typed, as a line to show; no bytes where nothing is.
-ghost use Rattle.std.specs.Prelude.{◌≡◌, ◌≤◌, cond, [], leb};
-ghost use Rattle.text.specs.Faults.{fault_of, faults_of};
-ghost use Rattle.text.specs.Faults.{larger as faults_larger};
+// What is wrong with a number that was typed, as a line to show.
+ghost use Rattle.std.specs.Prelude.{◌≡◌, ◌≤◌, IfOk};
+ghost use Rattle.text.specs.Faults.{Says, fault_of, faults_of, larger};
 ghost use Rattle.text.specs.Shown.{text_of};
 ghost use Rattle.text.specs.Typed.{number_of, value_of};
 
-use crate::line::{Line, fill};
-use crate::number::Number;
+use crate::line::Line;
+use crate::number::{NumberFault, value_of};
+use crate::words::{word, word_count};
 
 // A number of at most `most`.
 #[tactic(auto, unfolding(crate::specs::Faults::fault_of))]
-pub fn fault(word: Line, most: u32) -> Line
-    ensures { text_of result ≡ fault_of (text_of word) most }
+pub fn number(word: &[u8], most: u32) -> Result<u32, Line>
+    ensures says { Says result (fault_of word.now most) }
+    ensures value { IfOk result (λ n. n ≡ value_of (number_of word.now)) }
+    ensures upper_bound { IfOk result (λ n. n ≤ most) }
 {
-    let number = word.number();
-    match number {
-        Number::Value(value) => too_large(word, value, most),
-        Number::TooLarge => larger(word, most),
-        Number::Bad => fill(
+    match value_of(word) {
+        Ok(value) if value <= most => Ok(value),
+        Ok(_) => Err(larger(word, most)),
+        Err(NumberFault::TooLarge) => Err(larger(word, most)),
+        Err(NumberFault::Bad) => Err(Line::new().fill(
             b"bad number: % (hexadecimal, $ optional; decimal with a leading +)",
             word,
-        ),
+        )),
     }
 }
 
-fn larger(word: Line, most: u32) -> Line
-    ensures { text_of result ≡ faults_larger (text_of word) most }
+fn larger(word: &[u8], most: u32) -> Line
+    ensures { text_of result ≡ larger word.now most }
 {
-    fill(b"too large: % (at most ", word).hex6(most).put(b')')
-}
-
-fn too_large(word: Line, value: u32, most: u32) -> Line
-    ensures { text_of result ≡ cond (leb value most) [] (faults_larger (text_of word) most) }
-{
-    if value <= most {
-        return Line::new();
-    }
-    larger(word, most)
+    Line::new()
+        .fill(b"too large: % (at most ", word)
+        .hex(6, most)
+        .put(b')')
 }
 
 // The words of a line from one on, each a number of at most `most`: the first fault.
-pub fn faults(line: Line, from: usize, most: u32) -> Line
-    ensures { text_of result ≡ faults_of (text_of line) from most }
+pub fn numbers(line: &[u8], from: usize, most: u32) -> Result<(), Line>
+    ensures { Says result (faults_of line.now from most) }
 {
-    let words = line.words();
-    let mut i = from;
-    while i < words {
-        let found = fault(line.word(i), most);
-        if !found.is_empty() {
-            return found;
-        }
-        i += 1;
+    for i in from..word_count(line) {
+        number(word(line, i), most)?;
     }
-    Line::new()
+    Ok(())
 }
 
 // The number that a word is; 0 for what is none.
-pub fn value(word: Line) -> u32
-    ensures value { result ≡ value_of (number_of (text_of word)) }
+pub fn value(word: &[u8]) -> u32
+    ensures value { result ≡ value_of (number_of word.now) }
     ensures upper_bound { result ≤ 16777215 }
 {
-    let number = word.number();
-    match number {
-        Number::Value(value) => value,
-        Number::TooLarge => 0,
-        Number::Bad => 0,
-    }
+    value_of(word).unwrap_or(0)
 }

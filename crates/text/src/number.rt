@@ -1,75 +1,46 @@
 // Numbers as authors type them: hexadecimal with an optional $, decimal with a leading +.
-ghost use Rattle.std.specs.Prelude.{◌≡◌, ◌≤◌, ◌<◌};
-ghost use Rattle.text.specs.Typed.{digit_of, digits_of, number_of};
+ghost use Rattle.std.specs.Prelude.{◌≡◌, ◌≤◌};
+ghost use Rattle.text.specs.Typed.{digits_of, number_of};
 
-#[derive(Clone, Copy)]
-pub enum Number {
-    Value(u32),
-    TooLarge,
+// Why a text is no number.
+#[derive(Clone, Copy, PartialEq, Eq, Debug)]
+pub enum NumberFault {
     Bad,
+    TooLarge,
 }
 
-// The value of a digit; 16 for what is none.
-fn digit(byte: u8) -> u32
-    ensures { result ≡ digit_of byte }
-{
-    if byte < 48 {
-        return 16;
-    }
-    if byte < 58 {
-        return (byte - 48) as u32;
-    }
-    if byte < 65 {
-        return 16;
-    }
-    if byte < 71 {
-        return (byte - 55) as u32;
-    }
-    if byte < 97 {
-        return 16;
-    }
-    if byte < 103 {
-        return (byte - 87) as u32;
-    }
-    16
-}
+// A number has at most 24 bits.
+const LARGEST: u32 = 0xFFFFFF;
 
-// The digits of `s` from `from` on, in a base of at most 16. A number has at most 24 bits.
-fn digits_of(s: &[u8], from: usize, base: u32) -> Number
-    requires { base ≤ 16 }
-    ensures { result ≡ digits_of base s.now from }
+// The digits of `s`, in a base.
+fn digits_of(s: &[u8], base: u32) -> Result<u32, NumberFault>
+    requires lower_bound { 2 ≤ base }
+    requires upper_bound { base ≤ 16 }
+    ensures { result ≡ digits_of base s.now 0 }
 {
-    if s.len() <= from {
-        return Number::Bad;
+    if s.is_empty() {
+        return Err(NumberFault::Bad);
     }
     let mut value = 0;
-    let mut i = from;
-    while i < s.len() {
-        let next = digit(s[i]);
-        if base <= next {
-            return Number::Bad;
+    for &byte in s {
+        let Some(digit) = char::from(byte).to_digit(base) else {
+            return Err(NumberFault::Bad);
+        };
+        value = value * base + digit;
+        if LARGEST < value {
+            return Err(NumberFault::TooLarge);
         }
-        value = value * base + next;
-        if 0xFFFFFF < value {
-            return Number::TooLarge;
-        }
-        i += 1;
     }
-    Number::Value(value)
+    Ok(value)
 }
 
 #[tactic(auto, unfolding(crate::specs::Typed::number_of))]
-pub fn value_of(s: &[u8]) -> Number
+pub fn value_of(s: &[u8]) -> Result<u32, NumberFault>
     ensures { result ≡ number_of s.now }
 {
-    if s.len() == 0 {
-        return Number::Bad;
+    match s {
+        [b'+', digits @ ..] => digits_of(digits, 10),
+        [b'$', digits @ ..] => digits_of(digits, 16),
+        _ => digits_of(s, 16),
     }
-    if s[0] == b'+' {
-        return digits_of(s, 1, 10);
-    }
-    if s[0] == b'$' {
-        return digits_of(s, 1, 16);
-    }
-    digits_of(s, 0, 16)
 }

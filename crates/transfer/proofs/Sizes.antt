@@ -12,9 +12,6 @@ use Rattle.transfer.proofs.Pick.{fst, snd}
 shifted : (k : ℕ) → k < 32 → 1 * 2 ^ k % 4294967296 ≡ 2 ^ k
 shifted k h = shl_exact {a = 1} 1 k 32 (omega arith) (omega arith) ∙ one-mul (2 ^ k)
 
-pub shifted_some : (k : ℕ) → k < 32 → 1 ≤ 1 * 2 ^ k % 4294967296
-shifted_some k h = omega (arith, shifted k h, pow_pos k)
-
 pub fold_some : (a k : ℕ) → k < 32 → bit_and a (1 * 2 ^ k % 4294967296 - 1) ≡ a % 2 ^ k
 fold_some a k h = ap (λ (n : ℕ). bit_and a (n - 1)) (shifted k h) ∙ and_mask a k
 

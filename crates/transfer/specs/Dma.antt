@@ -1,48 +1,23 @@
 -- The transfer record: its parts, completing a byte, and when it is refused.
 use Rattle.std.specs.Prelude.{◌+◌, ◌-◌, ◌*◌, ◌&&◌, ◌||◌, ◌∷◌}
-use Rattle.transfer.specs.Prelude.{ℕ, Bool, true, false, not, cond, List, [], eqb, leb, ltb, C64Address, ExpansionAddress, Seen, TransferType, Store, Recall, Swap, Verify, SwapPhase, ReadC64, WriteC64, DmaState, Dma, Idle, Running, Passed, Completed}
+use Rattle.transfer.specs.Prelude.{ℕ, Bool, true, false, not, cond, List, [], eqb, leb, ltb, Seen, TransferType, Store, Recall, Swap, Verify, SwapPhase, ReadC64, WriteC64, DmaState, Passed, Completed, Option, None, Some}
 use Rattle.transfer.specs.Constants.{expansion_limit, full_length}
 use Rattle.transfer.specs.Bytes.{bit, bit_of, keep_bits}
 use Rattle.transfer.specs.Memory.{next_c64, next_exp, seen_at}
 
--- ---- a transfer with some fields replaced: a maker has a place for each field
-
-abbrev pub dma_of :
-    TransferType → SwapPhase → C64Address → ExpansionAddress → ℕ → Bool → Bool → Bool → ℕ → Bool → Bool → Bool
-    → DmaState
-dma_of kind phase c e n fix_c64 fix_exp autoload latch first odd tail =
-    record {
-      transfer_type = kind;
-      swap_phase = phase;
-      c64_addr = c;
-      reu_addr = e;
-      remaining = n;
-      fix_c64 = fix_c64;
-      fix_reu = fix_exp;
-      autoload = autoload;
-      latch = latch;
-      first_byte = first;
-      read_clock_odd = odd;
-      verify_tail = tail;
-    }
-
--- phase, latch, read parity and verify tail: what a tick changes beside the counters
-abbrev pub with_step : DmaState → SwapPhase → ℕ → Bool → Bool → DmaState
-with_step d phase latch odd tail =
-    dma_of d.transfer_type phase d.c64_addr d.reu_addr d.remaining d.fix_c64 d.fix_reu
-    d.autoload latch d.first_byte odd tail
+-- ---- a transfer with some fields replaced: phase, latch, read parity and verify tail are what a tick changes beside the counters
 
 abbrev pub with_phase : DmaState → SwapPhase → DmaState
-with_phase d v = with_step d v d.latch d.read_clock_odd d.verify_tail
+with_phase d v = record d { swap_phase = v }
 
 abbrev pub with_latch : DmaState → ℕ → DmaState
-with_latch d v = with_step d d.swap_phase v d.read_clock_odd d.verify_tail
+with_latch d v = record d { latch = v }
 
 abbrev pub with_odd : DmaState → Bool → DmaState
-with_odd d v = with_step d d.swap_phase d.latch v d.verify_tail
+with_odd d v = record d { read_clock_odd = v }
 
 abbrev pub with_tail : DmaState → Bool → DmaState
-with_tail d v = with_step d d.swap_phase d.latch d.read_clock_odd v
+with_tail d v = record d { verify_tail = v }
 
 -- ---- its type and phase
 
@@ -68,18 +43,18 @@ is_write_phase ReadC64 = false
 is_write_phase WriteC64 = true
 
 -- a transfer runs; one runs of which p holds
-abbrev pub active : Dma → Bool
-active Idle = false
-active (Running d) = true
+abbrev pub active : Option DmaState → Bool
+active None = false
+active (Some d) = true
 
-abbrev pub runs : (DmaState → Bool) → Dma → Bool
-runs p Idle = false
-runs p (Running d) = p d
+abbrev pub runs : (DmaState → Bool) → Option DmaState → Bool
+runs p None = false
+runs p (Some d) = p d
 
-abbrev pub is_first_byte : Dma → Bool
+abbrev pub is_first_byte : Option DmaState → Bool
 is_first_byte x = runs (λ d. d.first_byte) x
 
-abbrev pub is_last_byte : Dma → Bool
+abbrev pub is_last_byte : Option DmaState → Bool
 is_last_byte x = runs (λ d. eqb d.remaining 1) x
 
 -- "Length 0 means 65,536"
@@ -89,10 +64,13 @@ length_of n = cond (eqb n 0) full_length n
 -- "After each byte the C64 address steps up, .. the expansion address likewise, .. each unless fixed. Remaining 1 ends the block and stays 1"
 abbrev pub moved : DmaState → DmaState
 moved d =
-    dma_of d.transfer_type ReadC64 (cond d.fix_c64 d.c64_addr (next_c64 d.c64_addr))
-    (cond d.fix_reu d.reu_addr (next_exp d.reu_addr))
-    (cond (eqb d.remaining 1) d.remaining (d.remaining - 1)) d.fix_c64 d.fix_reu d.autoload
-    d.latch false d.read_clock_odd d.verify_tail
+    record d {
+      swap_phase = ReadC64;
+      c64_addr = cond d.fix_c64 d.c64_addr (next_c64 d.c64_addr);
+      reu_addr = cond d.fix_reu d.reu_addr (next_exp d.reu_addr);
+      remaining = cond (eqb d.remaining 1) d.remaining (d.remaining - 1);
+      first_byte = false;
+    }
 
 -- L2: "whether the C64 address passed $FFFF and whether the expansion address passed $FFFFFF". "A fixed address never reports its own"
 abbrev pub passed : DmaState → Passed
@@ -123,9 +101,9 @@ abbrev pub latched : DmaState → Seen → ℕ → DmaState
 latched d b cycle = with_phase (with_latch (with_odd d (bit cycle 0)) b.storage) WriteC64
 
 -- the bytes that a running transfer sees; none counts where there is no transfer
-abbrev pub seen_by : ℕ → Dma → List ℕ → List ℕ → Seen
-seen_by size Idle m s = record { bus = 0; storage = 0 }
-seen_by size (Running d) m s = seen_at size d.c64_addr d.reu_addr m s
+abbrev pub seen_by : ℕ → Option DmaState → List ℕ → List ℕ → Seen
+seen_by size None m s = record { bus = 0; storage = 0 }
+seen_by size (Some d) m s = seen_at size d.c64_addr d.reu_addr m s
 
 -- ---- "Refused, by who can cause it"
 
@@ -138,6 +116,6 @@ well_transfer d =
     && (not d.verify_tail || (is_type d.transfer_type Verify && eqb d.remaining 1))))
 
 -- "a transfer while not attached"
-abbrev pub well_dma : Bool → Dma → Bool
-well_dma attached Idle = true
-well_dma attached (Running d) = attached && well_transfer d
+abbrev pub well_dma : Bool → Option DmaState → Bool
+well_dma attached None = true
+well_dma attached (Some d) = attached && well_transfer d

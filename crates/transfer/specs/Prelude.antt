@@ -1,5 +1,5 @@
 -- What the definitions are written with: the library's numbers, truth values and lists, and the types that src/ declares. Nothing new is said here.
-pub use Rattle.std.specs.Prelude.{Bool, true, false, List, [], ◌∷◌, ◌≡◌, ℕ, ◌+◌, ◌-◌, ◌*◌, ◌/◌, ◌%◌, ◌^◌, ◌≤◌, ◌<◌}
+pub use Rattle.std.specs.Prelude.{Bool, true, false, Option, None, Some, List, [], ◌∷◌, ◌≡◌, ℕ, ◌+◌, ◌-◌, ◌*◌, ◌/◌, ◌%◌, ◌^◌, ◌≤◌, ◌<◌}
 unfoldable pub use Rattle.std.proofs.Math.Bool.{not, ◌&&◌, ◌||◌, beq as bool_eq, cond}
 unfoldable pub use Rattle.std.specs.Int.Bits.{bit_and, bit_or}
 unfoldable pub use Rattle.std.proofs.Math.Dec.{eqb, ltb, leb}
@@ -15,11 +15,9 @@ pub use Rattle.transfer.specs.declared.dma.TransferType.TheVariants.{Store, Reca
 pub use Rattle.transfer.specs.declared.dma.SwapPhase.{SwapPhase}
 pub use Rattle.transfer.specs.declared.dma.SwapPhase.TheVariants.{ReadC64, WriteC64}
 pub use Rattle.transfer.specs.declared.dma.DmaState.{DmaState}
-pub use Rattle.transfer.specs.declared.dma.Dma.{Dma}
-pub use Rattle.transfer.specs.declared.dma.Dma.TheVariants.{Idle, Running}
 pub use Rattle.transfer.specs.declared.dma.Passed.{Passed}
 pub use Rattle.transfer.specs.declared.dma.Completed.{Completed}
 pub use Rattle.transfer.specs.declared.timing.ReuC64Access.{ReuC64Access}
-pub use Rattle.transfer.specs.declared.timing.ReuC64Access.TheVariants.{None, Read, Write}
+pub use Rattle.transfer.specs.declared.timing.ReuC64Access.TheVariants.{Read, Write}
 pub use Rattle.transfer.specs.declared.timing.ReuBusAction.{ReuBusAction}
 pub use Rattle.transfer.specs.declared.timing.ReuBusAction.TheVariants.{Cpu, Hold, Transfer}

@@ -1,6 +1,6 @@
 -- The grant record, what the grant asks of the running command, and the C64 side's next access.
 use Rattle.std.specs.Prelude.{◌+◌, ◌*◌, ◌&&◌}
-use Rattle.transfer.specs.Prelude.{ℕ, Bool, true, false, not, bool_eq, cond, C64Address, TransferType, Store, Recall, Swap, Verify, SwapPhase, ReadC64, WriteC64, Dma, Idle, Running, Put, Nothing, Storage, ReuC64Access, None, Read, Write, ReuBusAction, Cpu, Hold, Transfer}
+use Rattle.transfer.specs.Prelude.{ℕ, Bool, true, false, not, bool_eq, cond, C64Address, TransferType, Store, Recall, Swap, Verify, SwapPhase, ReadC64, WriteC64, DmaState, Option, None, Some, Put, Nothing, Storage, ReuC64Access, Read, Write, ReuBusAction, Cpu, Hold, Transfer}
 use Rattle.transfer.specs.Bytes.{bit}
 use Rattle.transfer.specs.Dma.{is_type, is_write_phase, runs, with_phase}
 
@@ -16,18 +16,18 @@ access_by_type Swap WriteC64 a = Write a
 access_by_type Verify phase a = Read a
 
 -- with refresh set it is a read, whatever the type and the phase
-abbrev pub access_of : Bool → Dma → ReuC64Access
-access_of refresh Idle = None
-access_of refresh (Running d) =
+abbrev pub access_of : Bool → Option DmaState → ReuC64Access
+access_of refresh None = ReuC64Access.None
+access_of refresh (Some d) =
     cond refresh (Read d.c64_addr) (access_by_type d.transfer_type d.swap_phase d.c64_addr)
 
 abbrev pub reads : ReuC64Access → Bool
-reads None = false
+reads ReuC64Access.None = false
 reads (Read a) = true
 reads (Write a) = false
 
 abbrev pub writes : ReuC64Access → Bool
-writes None = false
+writes ReuC64Access.None = false
 writes (Read a) = false
 writes (Write a) = true
 
@@ -38,31 +38,31 @@ action_number Hold = 1
 action_number Transfer = 2
 
 abbrev pub access_number : ReuC64Access → ℕ
-access_number None = 0
+access_number ReuC64Access.None = 0
 access_number (Read a) = 1 * 65536 + a.0
 access_number (Write a) = 2 * 65536 + a.0
 
 -- ---- what the grant asks of the running command
 
 -- a swap is in its read phase, in its write phase; a recall has moved no byte yet
-abbrev pub swap_reads : Dma → Bool
+abbrev pub swap_reads : Option DmaState → Bool
 swap_reads x = runs (λ d. is_type d.transfer_type Swap && not (is_write_phase d.swap_phase)) x
 
-abbrev pub swap_writes : Dma → Bool
+abbrev pub swap_writes : Option DmaState → Bool
 swap_writes x = runs (λ d. is_type d.transfer_type Swap && is_write_phase d.swap_phase) x
 
-abbrev pub recall_starts : Dma → Bool
+abbrev pub recall_starts : Option DmaState → Bool
 recall_starts x = runs (λ d. is_type d.transfer_type Recall && d.first_byte) x
 
 -- "a rise on a write phase with equal parity"
-abbrev pub resumes : Dma → Bool → ℕ → Bool
+abbrev pub resumes : Option DmaState → Bool → ℕ → Bool
 resumes x rising cycle = rising && (swap_writes x && bool_eq (runs (λ d. d.read_clock_odd) x) (bit cycle 0))
 
 -- a swap's write phase "restores the storage byte and returns to the read phase"
-abbrev pub read_again : Dma → Dma
-read_again Idle = Idle
-read_again (Running d) = Running (with_phase d ReadC64)
+abbrev pub read_again : Option DmaState → Option DmaState
+read_again None = None
+read_again (Some d) = Some (with_phase d ReadC64)
 
-abbrev pub restored : Dma → Put
-restored Idle = Nothing
-restored (Running d) = Storage d.reu_addr d.latch
+abbrev pub restored : Option DmaState → Put
+restored None = Nothing
+restored (Some d) = Storage d.reu_addr d.latch

@@ -1,6 +1,7 @@
 // The transfer state, and the step that completes a byte.
 ghost use Rattle.std.specs.Prelude.{◌≡◌, ◌-◌, true, if◌then◌else◌, nat_eq};
-ghost use Rattle.transfer.specs.Dma.{active, complete_byte, is_first_byte, is_type, is_write_phase, is_last_byte, latched, passed_number, recalled, seen_by, type_number, type_of, well_dma, well_transfer, with_phase, with_tail};
+ghost use Rattle.transfer.specs.Dma.{complete_byte, latched, passed_number, recalled, type_number, type_of, well_dma, well_transfer, with_tail};
+ghost use Rattle.transfer.specs.Memory.{seen_at};
 
 use crate::constants::{
     COMMAND_TRANSFER_TYPE_MASK, EXPANSION_ADDRESS_LIMIT, FULL_64K_TRANSFER_LENGTH,
@@ -8,7 +9,7 @@ use crate::constants::{
 };
 use crate::memory::{C64Address, ExpansionAddress, Seen, seen_at};
 
-#[derive(Clone, Copy)]
+#[derive(Clone, Copy, Debug, PartialEq, Eq)]
 pub enum TransferType {
     Store,
     Recall,
@@ -16,14 +17,14 @@ pub enum TransferType {
     Verify,
 }
 
-#[derive(Clone, Copy)]
+#[derive(Clone, Copy, Debug, PartialEq, Eq)]
 pub enum SwapPhase {
     ReadC64,
     WriteC64,
 }
 
 // A swap takes two cycles for each byte, and its latch holds the storage's byte between them. Other types stay in the read phase.
-#[derive(Clone, Copy)]
+#[derive(Clone, Copy, Debug, PartialEq, Eq)]
 pub struct DmaState {
     pub transfer_type: TransferType,
     pub swap_phase: SwapPhase,
@@ -39,22 +40,15 @@ pub struct DmaState {
     pub verify_tail: bool,
 }
 
-// The running command.
-#[derive(Clone, Copy)]
-pub enum Dma {
-    Idle,
-    Running(DmaState),
-}
-
 // Which address ran over its top in a byte that was completed: the C64's from $FFFF to 0, the expansion's from $FFFFFF to 0.
-#[derive(Clone, Copy)]
+#[derive(Clone, Copy, Debug, PartialEq, Eq)]
 pub struct Passed {
     pub c64: bool,
     pub expansion: bool,
 }
 
 // What completing a byte answers: whether it was the last, which address ran over its top, and the transfer after it.
-#[derive(Clone, Copy)]
+#[derive(Clone, Copy, Debug, PartialEq, Eq)]
 pub struct Completed {
     pub done: bool,
     pub passed: Passed,
@@ -67,96 +61,42 @@ impl TransferType {
     pub fn from_command(command: u8) -> TransferType
         ensures { result ≡ type_of command }
     {
-        let kind = command & COMMAND_TRANSFER_TYPE_MASK;
-        match kind {
+        match command & COMMAND_TRANSFER_TYPE_MASK {
             0 => TransferType::Store,
             1 => TransferType::Recall,
             2 => TransferType::Swap,
             _ => TransferType::Verify,
         }
     }
+}
 
-    pub fn number(self) -> u8
-        ensures { result ≡ type_number self }
-    {
-        match self {
+impl From<TransferType> for u8 {
+    ghost from_gives = { λ kind n. n ≡ type_number kind };
+
+    fn from(kind: TransferType) -> u8 {
+        match kind {
             TransferType::Store => 0,
             TransferType::Recall => 1,
             TransferType::Swap => 2,
             TransferType::Verify => 3,
         }
     }
-
-    pub fn is(self, other: TransferType) -> bool
-        ensures { result ≡ is_type self other }
-    {
-        self.number() == other.number()
-    }
-}
-
-impl SwapPhase {
-    pub fn is_write(self) -> bool
-        ensures { result ≡ is_write_phase self }
-    {
-        match self {
-            SwapPhase::ReadC64 => false,
-            SwapPhase::WriteC64 => true,
-        }
-    }
-}
-
-impl Dma {
-    pub fn is_active(self) -> bool
-        ensures { result ≡ active self }
-    {
-        match self {
-            Dma::Idle => false,
-            Dma::Running(_) => true,
-        }
-    }
-
-    pub fn first_byte(self) -> bool
-        ensures { result ≡ is_first_byte self }
-    {
-        match self {
-            Dma::Idle => false,
-            Dma::Running(d) => d.first_byte,
-        }
-    }
-
-    // The bytes that a tick sees.
-    pub fn seen(self, size: u32, bus: &[u8], storage: &[u8]) -> Seen
-        ensures { result ≡ seen_by size self bus.now storage.now }
-    {
-        match self {
-            Dma::Idle => Seen { bus: 0, storage: 0 },
-            Dma::Running(d) => {
-                let c64 = d.c64_addr;
-                let reu = d.reu_addr;
-                seen_at(size, c64, reu, bus, storage)
-            }
-        }
-    }
-
-    pub fn last_byte(self) -> bool
-        ensures { result ≡ is_last_byte self }
-    {
-        match self {
-            Dma::Idle => false,
-            Dma::Running(d) => d.remaining == 1,
-        }
-    }
 }
 
 impl Passed {
-    // What the two add to the value of a tick or a cycle.
-    pub fn number(self) -> u32
-        ensures { result ≡ passed_number self }
-    {
-        if self.c64 {
-            return if self.expansion { 6 } else { 2 };
-        }
-        if self.expansion { 4 } else { 0 }
+    // What is reported where no byte is completed.
+    pub const NEITHER: Passed = Passed {
+        c64: false,
+        expansion: false,
+    };
+}
+
+// What the two add to the value of a tick or a cycle.
+impl From<Passed> for u32 {
+    ghost from_gives = { λ passed n. n ≡ passed_number passed };
+
+    fn from(passed: Passed) -> u32 {
+        2 * u32::from(passed.c64) + 4 * u32::from(passed.expansion)
     }
 }
 
@@ -177,30 +117,17 @@ impl DmaState {
     pub fn complete_byte(self) -> Completed
         ensures { result ≡ complete_byte self }
     {
-        let transfer_type = self.transfer_type;
-        let c64 = self.c64_addr;
-        let reu = self.reu_addr;
-        let c64_addr = c64.step(self.fix_c64);
-        let reu_addr = reu.step(self.fix_reu);
-        let remaining = left_after(self.remaining);
         let passed = Passed {
-            c64: !self.fix_c64 & (c64.0 == LAST_C64_ADDRESS),
-            expansion: !self.fix_reu & (reu.0 == LAST_EXPANSION_ADDRESS),
+            c64: !self.fix_c64 & (self.c64_addr.0 == LAST_C64_ADDRESS),
+            expansion: !self.fix_reu & (self.reu_addr.0 == LAST_EXPANSION_ADDRESS),
         };
-        let swap_phase = SwapPhase::ReadC64;
         let dma = DmaState {
-            transfer_type,
-            swap_phase,
-            c64_addr,
-            reu_addr,
-            remaining,
-            fix_c64: self.fix_c64,
-            fix_reu: self.fix_reu,
-            autoload: self.autoload,
-            latch: self.latch,
+            swap_phase: SwapPhase::ReadC64,
+            c64_addr: self.c64_addr.step(self.fix_c64),
+            reu_addr: self.reu_addr.step(self.fix_reu),
+            remaining: left_after(self.remaining),
             first_byte: false,
-            read_clock_odd: self.read_clock_odd,
-            verify_tail: self.verify_tail,
+            ..self
         };
         Completed {
             done: self.remaining == 1,
@@ -209,27 +136,11 @@ impl DmaState {
         }
     }
 
-    // The transfer in another phase.
-    pub fn with_phase(self, swap_phase: SwapPhase) -> DmaState
-        ensures { result ≡ with_phase self swap_phase }
+    // The bytes that a tick sees.
+    pub fn seen(self, size: u32, bus: &[u8], storage: &[u8]) -> Seen
+        ensures { result ≡ seen_at size self.c64_addr self.reu_addr bus.now storage.now }
     {
-        let transfer_type = self.transfer_type;
-        let c64_addr = self.c64_addr;
-        let reu_addr = self.reu_addr;
-        DmaState {
-            transfer_type,
-            swap_phase,
-            c64_addr,
-            reu_addr,
-            remaining: self.remaining,
-            fix_c64: self.fix_c64,
-            fix_reu: self.fix_reu,
-            autoload: self.autoload,
-            latch: self.latch,
-            first_byte: self.first_byte,
-            read_clock_odd: self.read_clock_odd,
-            verify_tail: self.verify_tail,
-        }
+        seen_at(size, self.c64_addr, self.reu_addr, bus, storage)
     }
 
     // A repeated recall takes the latch.
@@ -247,46 +158,39 @@ impl DmaState {
     pub fn latched(self, seen: Seen, cycle: u64) -> DmaState
         ensures { result ≡ latched self seen cycle }
     {
-        let phase = SwapPhase::WriteC64;
-        let mut next = self.with_phase(phase);
-        next.read_clock_odd = cycle & 1 != 0;
-        next.latch = seen.storage;
-        next
+        DmaState {
+            swap_phase: SwapPhase::WriteC64,
+            read_clock_odd: cycle & 1 != 0,
+            latch: seen.storage,
+            ..self
+        }
     }
 
-    pub fn with_tail(mut self) -> DmaState
+    pub fn with_tail(self) -> DmaState
         ensures { result ≡ with_tail self true }
     {
-        self.verify_tail = true;
-        self
+        DmaState {
+            verify_tail: true,
+            ..self
+        }
     }
-}
 
-// The tests of a transfer that is handed over.
-
-impl DmaState {
+    // The test of a transfer that is handed over.
     pub fn well_formed(self) -> bool
         ensures { result ≡ well_transfer self }
     {
-        let kind = self.transfer_type;
-        let phase = self.swap_phase;
-        let addr = self.reu_addr;
-        let swap = TransferType::Swap;
-        let verify = TransferType::Verify;
         let length = (1 <= self.remaining) & (self.remaining <= FULL_64K_TRANSFER_LENGTH);
-        let write = !phase.is_write() | kind.is(swap);
-        let tail = !self.verify_tail | (kind.is(verify) & (self.remaining == 1));
-        length & ((addr.0 < EXPANSION_ADDRESS_LIMIT) & (write & tail))
+        let write = (self.swap_phase != SwapPhase::WriteC64)
+            | (self.transfer_type == TransferType::Swap);
+        let tail = !self.verify_tail
+            | ((self.transfer_type == TransferType::Verify) & (self.remaining == 1));
+        length & ((self.reu_addr.0 < EXPANSION_ADDRESS_LIMIT) & (write & tail))
     }
 }
 
-impl Dma {
-    pub fn well_formed(self, attached: bool) -> bool
-        ensures { result ≡ well_dma attached self }
-    {
-        match self {
-            Dma::Idle => true,
-            Dma::Running(d) => attached & d.well_formed(),
-        }
-    }
+// A transfer that is handed over needs storage.
+pub fn well_dma(attached: bool, dma: Option<DmaState>) -> bool
+    ensures { result ≡ well_dma attached dma }
+{
+    dma.map_or(true, |d| attached & d.well_formed())
 }

@@ -10,8 +10,8 @@ mod memory;
 mod timing;
 
 pub use constants::{EXPANSION_ADDRESS_LIMIT, FULL_64K_TRANSFER_LENGTH};
-pub use dma::{Completed, Dma, DmaState, Passed, SwapPhase, TransferType};
+pub use dma::{Completed, DmaState, Passed, SwapPhase, TransferType, well_dma};
 pub use memory::{
     C64Address, ExpansionAddress, Offset, Put, Seen, chip_mark, clear, is_size, seen_at,
 };
-pub use timing::{ReuBusAction, ReuC64Access, action_for_cycle};
+pub use timing::{ReuBusAction, ReuC64Access, action_for_cycle, c64_access};

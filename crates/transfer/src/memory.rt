@@ -1,19 +1,19 @@
 // The addresses, and the bytes of the bus and of the expansion's storage.
-ghost use Rattle.std.specs.Prelude.{◌≡◌, if◌then◌else◌};
+ghost use Rattle.std.specs.Prelude.{◌≡◌, if◌then◌else◌, set};
 ghost use Rattle.transfer.specs.Memory.{bus_byte, chip_mark, is_size, lines, next_c64, next_exp, physical_offset, put_bus, put_storage, seen_at, storage_byte, zeros};
 
 use crate::constants::{CAPACITY_WITHOUT_MARK, EXPANSION_ADDRESS_LIMIT, FEWEST_LINES, MOST_LINES};
 
 // A C64 address, 16 bits.
-#[derive(Clone, Copy)]
+#[derive(Clone, Copy, Debug, PartialEq, Eq)]
 pub struct C64Address(pub u16);
 
 // An expansion address, 24 bits.
-#[derive(Clone, Copy)]
+#[derive(Clone, Copy, Debug, PartialEq, Eq)]
 pub struct ExpansionAddress(pub u32);
 
 // An offset in the storage, after folding.
-#[derive(Clone, Copy)]
+#[derive(Clone, Copy, Debug, PartialEq, Eq)]
 pub struct Offset(pub u32);
 
 // How many address lines a storage of this size has connected.
@@ -84,20 +84,18 @@ impl ExpansionAddress {
 fn bus_byte(bus: &[u8], addr: C64Address) -> u8
     ensures { result ≡ bus_byte bus.now addr }
 {
-    let at = addr.0 as usize;
-    if at < bus.len() { bus[at] } else { 0 }
+    bus.get(usize::from(addr.0)).copied().unwrap_or(0)
 }
 
 fn storage_byte(size: u32, storage: &[u8], addr: ExpansionAddress) -> u8
     ensures { result ≡ storage_byte size storage.now addr }
 {
     let offset = addr.physical_offset(size);
-    let at = offset.0 as usize;
-    if at < storage.len() { storage[at] } else { 0 }
+    storage.get(offset.0 as usize).copied().unwrap_or(0)
 }
 
 // The two bytes at a transfer's place.
-#[derive(Clone, Copy)]
+#[derive(Clone, Copy, Debug, PartialEq, Eq)]
 pub struct Seen {
     pub bus: u8,
     pub storage: u8,
@@ -119,11 +117,20 @@ pub fn seen_at(
 }
 
 // What a grant or a tick writes: at most one byte.
-#[derive(Clone, Copy)]
+#[derive(Clone, Copy, Debug, PartialEq, Eq)]
 pub enum Put {
     Nothing,
     Bus(C64Address, u8),
     Storage(ExpansionAddress, u8),
+}
+
+// A byte at a place; past the end nothing is written.
+fn set_byte(bytes: &mut [u8], at: usize, value: u8)
+    ensures { bytes.new ≡ set bytes.old at value }
+{
+    if at < bytes.len() {
+        bytes[at] = value;
+    }
 }
 
 impl Put {
@@ -131,14 +138,8 @@ impl Put {
         ensures { bus.new ≡ put_bus self bus.old }
     {
         match self {
-            Put::Nothing => {}
-            Put::Bus(addr, value) => {
-                let at = addr.0 as usize;
-                if at < bus.len() {
-                    bus[at] = value;
-                }
-            }
-            Put::Storage(_, _) => {}
+            Put::Bus(addr, value) => set_byte(bus, usize::from(addr.0), value),
+            Put::Nothing | Put::Storage(_, _) => {}
         }
     }
 
@@ -146,26 +147,19 @@ impl Put {
         ensures { storage.new ≡ put_storage size self storage.old }
     {
         match self {
-            Put::Nothing => {}
-            Put::Bus(_, _) => {}
             Put::Storage(addr, value) => {
                 let offset = addr.physical_offset(size);
-                let at = offset.0 as usize;
-                if at < storage.len() {
-                    storage[at] = value;
-                }
+                set_byte(storage, offset.0 as usize, value)
             }
+            Put::Nothing | Put::Bus(_, _) => {}
         }
     }
 }
 
 // Every byte of the storage becomes 0: for a host too, that begins anew.
+#[tactic(auto, unfolding(crate::specs::Memory::zeros))]
 pub fn clear(storage: &mut [u8])
     ensures { storage.new ≡ zeros storage.old }
 {
-    let mut i = 0;
-    while i < storage.len() {
-        storage[i] = 0;
-        i += 1;
-    }
+    storage.fill(0)
 }

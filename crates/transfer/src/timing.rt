@@ -1,14 +1,14 @@
 // The grant of a cycle, and the C64 side's next access.
 ghost use Rattle.std.specs.Prelude.{◌≡◌};
-ghost use Rattle.transfer.specs.Timing.{access_by_type, access_number, access_of, action_for_cycle, action_number, read_again, reads, recall_starts, restored, resumes, swap_reads, swap_writes, writes};
-ghost use Rattle.transfer.specs.Dma.{runs};
+ghost use Rattle.transfer.specs.Timing.{access_by_type, access_number, access_of, action_for_cycle, action_number, read_again, recall_starts, restored, resumes, swap_reads, swap_writes};
+ghost use Rattle.transfer.specs.Dma.{with_phase};
 
 use crate::constants::ACCESS_KIND;
-use crate::dma::{Dma, SwapPhase, TransferType};
+use crate::dma::{DmaState, SwapPhase, TransferType};
 use crate::memory::{C64Address, Put};
 
 // The decision for one cycle: no command owns the bus; the command waits while BA is low; one phase advances.
-#[derive(Clone, Copy)]
+#[derive(Clone, Copy, Debug, PartialEq, Eq)]
 pub enum ReuBusAction {
     Cpu,
     Hold,
@@ -16,7 +16,7 @@ pub enum ReuBusAction {
 }
 
 // What the next granted cycle does on the C64's bus.
-#[derive(Clone, Copy)]
+#[derive(Clone, Copy, Debug, PartialEq, Eq)]
 pub enum ReuC64Access {
     None,
     Read(C64Address),
@@ -27,82 +27,27 @@ pub enum ReuC64Access {
 pub fn action_for_cycle(dma_active: bool, ba_high: bool) -> ReuBusAction
     ensures { result ≡ action_for_cycle dma_active ba_high }
 {
-    if dma_active {
-        if ba_high {
-            ReuBusAction::Transfer
-        } else {
-            ReuBusAction::Hold
-        }
-    } else {
-        ReuBusAction::Cpu
+    match (dma_active, ba_high) {
+        (false, _) => ReuBusAction::Cpu,
+        (true, false) => ReuBusAction::Hold,
+        (true, true) => ReuBusAction::Transfer,
     }
 }
 
-impl ReuC64Access {
-    pub fn reads(self) -> bool
-        ensures { result ≡ reads self }
-    {
-        match self {
-            ReuC64Access::None => false,
-            ReuC64Access::Read(_) => true,
-            ReuC64Access::Write(_) => false,
-        }
-    }
-
-    pub fn writes(self) -> bool
-        ensures { result ≡ writes self }
-    {
-        match self {
-            ReuC64Access::None => false,
-            ReuC64Access::Read(_) => false,
-            ReuC64Access::Write(_) => true,
-        }
-    }
-}
-
-impl TransferType {
-    fn access(self, phase: SwapPhase, addr: C64Address) -> ReuC64Access
-        ensures { result ≡ access_by_type self phase addr }
-    {
-        match self {
-            TransferType::Store => ReuC64Access::Read(addr),
-            TransferType::Recall => ReuC64Access::Write(addr),
-            TransferType::Swap => match phase {
-                SwapPhase::ReadC64 => ReuC64Access::Read(addr),
-                SwapPhase::WriteC64 => ReuC64Access::Write(addr),
-            },
-            TransferType::Verify => ReuC64Access::Read(addr),
-        }
-    }
-}
-
-impl Dma {
-    pub fn access(self, refresh: bool) -> ReuC64Access
-        ensures { result ≡ access_of refresh self }
-    {
-        match self {
-            Dma::Idle => ReuC64Access::None,
-            Dma::Running(d) => {
-                let kind = d.transfer_type;
-                let phase = d.swap_phase;
-                let addr = d.c64_addr;
-                if refresh {
-                    ReuC64Access::Read(addr)
-                } else {
-                    kind.access(phase, addr)
-                }
-            }
-        }
-    }
+// What the C64's bus sees next: nothing where no command runs.
+pub fn c64_access(dma: Option<DmaState>, refresh: bool) -> ReuC64Access
+    ensures { result ≡ access_of refresh dma }
+{
+    dma.map_or(ReuC64Access::None, |d| d.access(refresh))
 }
 
 // The numbers of an answer.
 
-impl ReuBusAction {
-    pub fn number(self) -> u32
-        ensures { result ≡ action_number self }
-    {
-        match self {
+impl From<ReuBusAction> for u32 {
+    ghost from_gives = { λ action n. n ≡ action_number action };
+
+    fn from(action: ReuBusAction) -> u32 {
+        match action {
             ReuBusAction::Cpu => 0,
             ReuBusAction::Hold => 1,
             ReuBusAction::Transfer => 2,
@@ -110,104 +55,71 @@ impl ReuBusAction {
     }
 }
 
-impl ReuC64Access {
-    pub fn number(self) -> u32
-        ensures { result ≡ access_number self }
-    {
-        match self {
+impl From<ReuC64Access> for u32 {
+    ghost from_gives = { λ access n. n ≡ access_number access };
+
+    fn from(access: ReuC64Access) -> u32 {
+        match access {
             ReuC64Access::None => 0,
-            ReuC64Access::Read(addr) => ACCESS_KIND + (addr.0 as u32),
-            ReuC64Access::Write(addr) => 2 * ACCESS_KIND + (addr.0 as u32),
+            ReuC64Access::Read(addr) => ACCESS_KIND + u32::from(addr.0),
+            ReuC64Access::Write(addr) => 2 * ACCESS_KIND + u32::from(addr.0),
         }
     }
 }
 
-// What the grant asks of the running command.
-
-impl Dma {
-    pub fn swap_reads(self) -> bool
-        ensures { result ≡ swap_reads self }
+impl DmaState {
+    // With a refresh it is a read, whatever the type and the phase.
+    pub fn access(self, refresh: bool) -> ReuC64Access
+        ensures { result ≡ access_of refresh (Some self) }
     {
-        match self {
-            Dma::Idle => false,
-            Dma::Running(d) => {
-                let kind = d.transfer_type;
-                let phase = d.swap_phase;
-                let swap = TransferType::Swap;
-                kind.is(swap) & !phase.is_write()
+        match (self.transfer_type, self.swap_phase) {
+            (TransferType::Recall, _) | (TransferType::Swap, SwapPhase::WriteC64) if !refresh => {
+                ReuC64Access::Write(self.c64_addr)
             }
+            _ => ReuC64Access::Read(self.c64_addr),
         }
+    }
+
+    // What the grant asks of the running command.
+
+    pub fn swap_reads(self) -> bool
+        ensures { result ≡ swap_reads (Some self) }
+    {
+        (self.transfer_type == TransferType::Swap) & (self.swap_phase == SwapPhase::ReadC64)
     }
 
     pub fn swap_writes(self) -> bool
-        ensures { result ≡ swap_writes self }
+        ensures { result ≡ swap_writes (Some self) }
     {
-        match self {
-            Dma::Idle => false,
-            Dma::Running(d) => {
-                let kind = d.transfer_type;
-                let phase = d.swap_phase;
-                let swap = TransferType::Swap;
-                kind.is(swap) & phase.is_write()
-            }
-        }
+        (self.transfer_type == TransferType::Swap) & (self.swap_phase == SwapPhase::WriteC64)
     }
 
     pub fn recall_starts(self) -> bool
-        ensures { result ≡ recall_starts self }
+        ensures { result ≡ recall_starts (Some self) }
     {
-        match self {
-            Dma::Idle => false,
-            Dma::Running(d) => {
-                let kind = d.transfer_type;
-                let recall = TransferType::Recall;
-                kind.is(recall) & d.first_byte
-            }
-        }
-    }
-
-    fn odd_read(self) -> bool
-        ensures { result ≡ runs (λ d. d.read_clock_odd) self }
-    {
-        match self {
-            Dma::Idle => false,
-            Dma::Running(d) => d.read_clock_odd,
-        }
+        (self.transfer_type == TransferType::Recall) & self.first_byte
     }
 
     // BA rises on a write phase whose read had the same parity.
     pub fn resumes(self, rising: bool, cycle: u64) -> bool
-        ensures { result ≡ resumes self rising cycle }
+        ensures { result ≡ resumes (Some self) rising cycle }
     {
-        if rising {
-            let odd = cycle & 1 != 0;
-            return self.swap_writes() & (self.odd_read() == odd);
-        }
-        false
+        rising & self.swap_writes() & (self.read_clock_odd == (cycle & 1 != 0))
     }
 
     // A swap's write half is given up: the read half comes next, and the storage has its byte again.
-    pub fn read_again(self) -> Dma
-        ensures { result ≡ read_again self }
+    pub fn read_again(self) -> DmaState
+        ensures { Some result ≡ read_again (Some self) }
     {
-        match self {
-            Dma::Idle => self,
-            Dma::Running(d) => {
-                let phase = SwapPhase::ReadC64;
-                Dma::Running(d.with_phase(phase))
-            }
+        DmaState {
+            swap_phase: SwapPhase::ReadC64,
+            ..self
         }
     }
 
     pub fn restored(self) -> Put
-        ensures { result ≡ restored self }
+        ensures { result ≡ restored (Some self) }
     {
-        match self {
-            Dma::Idle => Put::Nothing,
-            Dma::Running(d) => {
-                let addr = d.reu_addr;
-                Put::Storage(addr, d.latch)
-            }
-        }
+        Put::Storage(self.reu_addr, self.latch)
     }
 }

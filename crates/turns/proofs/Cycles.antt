@@ -2,16 +2,16 @@
 use mathlib.Core.Path.{◌≡◌, refl, sym, ap, ◌∙◌, subst}
 use mathlib.Core.Bool.{Bool, true, false, cond, false≢true}
 use mathlib.Core.List.{List}
-use Prim.Native.Nat.{ℕ, ◌+◌, ◌≤◌, ◌<◌}
+use Prim.Native.Nat.{ℕ, ◌+◌, ◌/◌, ◌%◌, ◌≤◌}
 use native.Mathlib.Omega.{arith}
-use lib.Dec.{eqb, ltb}
+use lib.Dec.{eqb}
 use lib.ListN.{length}
-use borrow.Author.Tests.{eq-eqb, eqb-false, eqb-true, le-ltb, lt-ltb, ltb-true}
-use Rattle.image.specs.Layout.{image_size}
+use borrow.Author.Tests.{eq-eqb, eqb-false, eqb-true, le-ltb}
+use Rattle.image.specs.Layout.{image_size, place_of, transfer_exp}
 use Rattle.controller.specs.declared.reu.Reu.{Reu}
-use Rattle.transfer.specs.Bytes.{bit, bit_of}
-use Rattle.transfer.specs.Dma.{neither, passed_number}
-use Rattle.transfer.specs.declared.dma.Passed.{Passed}
+use Rattle.std.specs.Prelude.{Result, Ok, Err}
+use Rattle.transfer.specs.Bytes.{bit_of}
+use Rattle.transfer.specs.Dma.{neither}
 use Rattle.controller.specs.Calls.{bus_action_call, cycle_call, numbered}
 use Rattle.controller.specs.TickDma.{Ticked}
 use Rattle.controller.specs.Refusals.{checked, refusal_of}
@@ -19,10 +19,12 @@ use Rattle.image.specs.Open.{open_image}
 use Rattle.image.proofs.Opening.{opened_long}
 use Rattle.reu.specs.Exports.{change_both, change_storage, changed_both, changed_storage, code, flag, refusal, refusal_unit, reu_bus_action, reu_cycle}
 use Rattle.pane.specs.Answers.{accepted}
-use Rattle.pane.specs.Rows.{copy_of}
+use Rattle.pane.specs.Rows.{copy_of, long_at, size_in}
+use Rattle.pane.specs.declared.answers.Refused.{Refused}
+use Rattle.lines.specs.declared.clock.Inputs.{Inputs}
 use Rattle.console.specs.declared.step.Cycle.{Cycle}
-use Rattle.console.specs.Step.{asked_of, cycle_of, marks_of}
-use Rattle.turns.specs.Cycles.{GrantsAreTaken, ShownAs, answer_for}
+use Rattle.console.specs.Step.{access_ready, action_in, asked_of, cycle_of, refused_in, with_marks}
+use Rattle.turns.specs.Cycles.{GrantsAreTaken, ShownAs}
 use Rattle.turns.proofs.Taken.{Takes, calls_take}
 
 large : (n : ℕ) → (n ≡ 0 → ⊥) → accepted (refusal n) ≡ false
@@ -80,37 +82,61 @@ module _ (i m s : List ℕ) (high number low phi1 : ℕ) where
       let z = opens (eqb n 0) refl ok in
       (z, takes z (whole z (eqb k 0) refl ok))
 
+  -- one that is refused answers the refusal alone
+  by_lengths : (z : n ≡ 0) (b : Bool) → eqb k 0 ≡ b → accepted cycle.0 ≡ false
+      → code (numbered call.0) ≡ refusal (code (numbered call.0) / refusal_unit)
+  unfolding cycle_call checked code
+  by_lengths z true e bad = absurd (false≢true (sym bad ∙ (takes z (eqb-true k 0 e)).0))
+  by_lengths z false e bad = let alone : refusal k + 0 ≡ refusal ((refusal k + 0) / refusal_unit) = omega arith in rw e alone
+
+  by_opening : (b : Bool) → eqb n 0 ≡ b → accepted cycle.0 ≡ false → cycle.0 ≡ refusal (cycle.0 / refusal_unit)
+  unfolding change_both checked
+  by_opening true e bad =
+      let z = eqb-true n 0 e in
+      subst (λ (x : ℕ × List ℕ × List ℕ × List ℕ). x.0 ≡ refusal (x.0 / refusal_unit)) (sym (called z))
+      (by_lengths z (eqb k 0) refl bad)
+  by_opening false e bad = let alone : refusal n ≡ refusal (refusal n / refusal_unit) = omega arith in rw e alone
+
+  refused : accepted cycle.0 ≡ false → cycle.0 ≡ refusal (cycle.0 / refusal_unit)
+  refused bad = by_opening (eqb n 0) refl bad
+
 -- an image that opens is its own copy
 copied : (i : List ℕ) → (open_image i).refusal ≡ 0 → i ≡ copy_of i
 copied i z = rw (eq-eqb (length i) image_size (opened_long i z))
 
-module _ (inputs number : ℕ) (i m s : List ℕ) where
-  abbrev input : ℕ → ℕ
-  input b = bit_of (bit inputs b)
+module _ (inputs : Inputs) (number : ℕ) (i m s : List ℕ) where
+  abbrev high : ℕ
+  high = bit_of inputs.ba_high
+
+  abbrev low : ℕ
+  low = bit_of inputs.ba_low
+
+  abbrev phi1 : ℕ
+  phi1 = bit_of inputs.ba_high_phi1
 
   abbrev x : ℕ × List ℕ × List ℕ × List ℕ
-  x = reu_cycle i m s (input 2) number (input 0) (input 1)
+  x = reu_cycle i m s high number low phi1
 
   abbrev grant : List ℕ → (ℕ × List ℕ × List ℕ)
-  grant j = reu_bus_action j s (input 2) (input 1) number
+  grant j = reu_bus_action j s high phi1 number
 
-  abbrev Shown : ℕ → Passed → Type 0
-  Shown a p = ShownAs m x (grant i) a p
+  -- what was asked of an image
+  abbrev asked : List ℕ → Result Cycle Refused
+  asked j =
+      cond (accepted (grant j).0)
+      (Ok record { grant = action_in (grant j).0; access = access_ready (grant j).1; offset = long_at (grant j).1 (place_of transfer_exp) % size_in (grant j).1; passed = neither })
+      (Err (refused_in (grant j).0))
 
-  abbrev done : Cycle
-  done = (cycle_of inputs number i m s).0
+  abbrev Shown : Result Cycle Refused → Type 0
+  Shown done = ShownAs m x (grant i) done
 
-  shown : (b : Bool) → accepted x.0 ≡ b → Shown done.grant done.passed
+  shown : (b : Bool) → accepted x.0 ≡ b → Shown (cycle_of inputs number i m s).0
   unfolding cycle_of asked_of
   shown true ok =
-      let it = taken i m s (input 2) number (input 0) (input 1) ok in
-      rw ok (subst (λ (j : List ℕ). Shown (grant j).0 (marks_of x.0)) (copied i it.0) it.1)
-  shown false bad =
-      let small : ltb x.0 2 ≡ true → accepted x.0 ≡ true =
-      λ h. let l : x.0 < 2 = ltb-true x.0 2 h in lt-ltb x.0 refusal_unit (omega arith) in
-      let none : x.0 ≡ x.0 + 0 = omega arith in
-      let same : x.0 ≡ answer_for x.0 + passed_number neither = rw bad none in
-      rw bad (same, λ h. absurd (false≢true (sym bad ∙ small h)))
+      let it = taken i m s high number low phi1 ok in
+      let as_granted : Shown (with_marks (asked i) x.0) = rw it.1.1 it.1.2 in
+      rw ok (subst (λ (j : List ℕ). Shown (with_marks (asked j) x.0)) (copied i it.0) as_granted)
+  shown false bad = rw bad (refused i m s high number low phi1 bad)
 
 pub grants_are_taken : GrantsAreTaken
 grants_are_taken inputs number i m s = shown inputs number i m s (accepted (x inputs number i m s).0) refl

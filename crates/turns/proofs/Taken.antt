@@ -6,7 +6,7 @@ use mathlib.Core.List.{List}
 use Prim.Native.Nat.{ℕ, ◌+◌}
 use lib.ListN.{length}
 use borrow.Author.Tests.{eq-eqb}
-use Rattle.controller.specs.declared.reu.Answer.{Answer}
+use Rattle.controller.specs.Answers.{Answer}
 use Rattle.controller.specs.declared.reu.Reu.{Reu}
 use Rattle.transfer.specs.declared.dma.Passed.{Passed}
 use Rattle.transfer.specs.declared.timing.ReuBusAction.{ReuBusAction}
@@ -21,22 +21,25 @@ use Rattle.controller.specs.Cycle.{cycle_by, run_reu_cycle}
 use Rattle.controller.specs.Refusals.{checked, refusal_of}
 use Rattle.controller.proofs.Checked.{accepted as lengths}
 use Rattle.reu.specs.Exports.{changed_both, changed_storage, code, image_after, refusal}
-use Rattle.console.specs.Step.{marks_of}
-use Rattle.turns.specs.Cycles.{ShownAs}
+use Rattle.pane.specs.Answers.{accepted}
+use Rattle.console.specs.Step.{action_in, marks_of}
+use Rattle.turns.specs.Cycles.{TakenAs}
 
--- shown with the grant g and the marks of its own answer
+-- neither is refused, and it is shown with the grant g and the marks of its own answer
 abbrev pub Takes : List ℕ → (ℕ × List ℕ × List ℕ × List ℕ) → (ℕ × List ℕ × List ℕ) → Type 0
-Takes m k g = ShownAs m k g g.0 (marks_of k.0)
+Takes m k g = (accepted k.0 ≡ true) × (accepted g.0 ≡ true) × TakenAs m k g (action_in g.0) (marks_of k.0)
 
--- an answer is 1 and what its own marks add
-told : (p : Passed) → let n : ℕ = refusal 0 + step_number true p in n ≡ 1 + passed_number (marks_of n)
+-- an answer is accepted, and it is 1 and what its own marks add
+told : (p : Passed) → let n : ℕ = refusal 0 + step_number true p in (accepted n ≡ true) × (n ≡ 1 + passed_number (marks_of n))
 told p = go p.c64 p.expansion
   where
-    go : (a b : Bool) → let n : ℕ = refusal 0 + step_number true record { c64 = a; expansion = b } in n ≡ 1 + passed_number (marks_of n)
-    go true true = refl
-    go true false = refl
-    go false true = refl
-    go false false = refl
+    go :
+        (a b : Bool) → let n : ℕ = refusal 0 + step_number true record { c64 = a; expansion = b } in
+        (accepted n ≡ true) × (n ≡ 1 + passed_number (marks_of n))
+    go true true = (refl, refl)
+    go true false = (refl, refl)
+    go false true = (refl, refl)
+    go false false = (refl, refl)
 
 module _ (u : Reu) (m s : List ℕ) (high phi1 : Bool) (number : ℕ) (low : Bool) where
   abbrev k : ℕ
@@ -66,9 +69,10 @@ module _ (u : Reu) (m s : List ℕ) (high phi1 : Bool) (number : ℕ) (low : Boo
           → Takes m (changed_both (cycle_by a w m t number low) i)
           (changed_storage (answered (action_number a) w, t) i)
       unfolding cycle_by code image_after
-      by_action Cpu w t = (refl, λ h. (refl, refl))
-      by_action Hold w t = (refl, λ h. (refl, refl))
-      by_action Transfer w t = (told (tick_dma w m t number low).0.passed, λ h. absurd (false≢true h))
+      by_action Cpu w t = (refl, refl, (refl, λ h. (refl, refl)))
+      by_action Hold w t = (refl, refl, (refl, λ h. (refl, refl)))
+      by_action Transfer w t =
+          let it = told (tick_dma w m t number low).0.passed in (it.0, refl, (it.1, λ h. absurd (false≢true h)))
 
       pub calls_take : Takes m (changed_both (cycle_call u m s high phi1 number low) i) (changed_storage (bus_action_call u s high phi1 number) i)
       calls_take =

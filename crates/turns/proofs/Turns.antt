@@ -1,20 +1,21 @@
 -- What holds of turns.
 use mathlib.Core.Path.{◌≡◌, refl, sym, ap, ◌∙◌, subst}
-use mathlib.Core.Bool.{Bool, true, false, cond}
+use mathlib.Core.Bool.{Bool, true, false, cond, false≢true}
 use mathlib.Core.List.{List, [], ◌∷◌}
 use Prim.Native.Nat.{ℕ, zero, suc, ◌-◌, ◌≤◌, ◌<◌}
 use native.Mathlib.Omega.{arith}
 use lib.Dec.{eqb}
 use lib.ListN.{length, get_or}
-use borrow.Author.Tests.{lt-ltb, ne_eqb}
+use borrow.Author.Tests.{eqb-true, lt-ltb, ne_eqb}
+use Rattle.std.specs.Prelude.{None, Some}
 use Rattle.text.specs.Shown.{ascii}
 use Rattle.text.specs.Typed.{same, word_of}
 use Rattle.console.specs.declared.session.Session.{Session}
 use Rattle.console.specs.Apply.{apply_of, control_of, count_or, step_outcome}
 use Rattle.lines.specs.Clock.{time_of}
 use Rattle.lines.specs.Commands.{is, is_comment}
-use Rattle.console.specs.Session.{Held, Turn, ended_after, fault_in, held_of, is_dropped, machine_of, steps_of, turn_of}
-use Rattle.lines.proofs.Names.{same_true}
+use Rattle.lines.specs.Keys.{command_of}
+use Rattle.console.specs.Session.{Held, Turn, ended_after, ended_by, fault_in, held_of, is_dropped, machine_of, steps_by, steps_of, turn_of}
 use Rattle.console.proofs.Turns.{forgets, obeys}
 use Rattle.turns.specs.Turns.{FaultsChangeNothing, StepsAreCycles, Turns, cycled, cycles}
 
@@ -28,8 +29,23 @@ pub faults_change_nothing : FaultsChangeNothing
 faults_change_nothing t z i m s h n =
     let e : true ≡ is_dropped t (fault_in i t) = rw (some_bytes (fault_in i t) n) in
     sym (forgets z i m s t (omega arith) e refl refl)
+    ∙ (λ j. (held_of z i m s, cond (some_bytes (fault_in i t) n j) None (Some (fault_in i t)), None))
 
 -- ---- z
+
+-- texts that are the same are equal
+ahead :
+    {a b : ℕ} {s t : List ℕ} (x : Bool) → eqb a b ≡ x → cond x (same s t) false ≡ true → (same s t ≡ true → s ≡ t) →
+    a ∷ s ≡ b ∷ t
+ahead {a} {b} true q e further = λ j. eqb-true a b q j ∷ further e j
+ahead false q e further = absurd (false≢true e)
+
+same_true : (s t : List ℕ) → same s t ≡ true → s ≡ t
+unfolding same
+same_true [] [] e = refl
+same_true [] (b ∷ t) e = absurd (false≢true e)
+same_true (a ∷ s) [] e = absurd (false≢true e)
+same_true (a ∷ s) (b ∷ t) e = ahead (eqb a b) refl e (same_true s t)
 
 module _ (t : List ℕ) (w : ascii "z" ≡ word_of 0 t) where
   -- a line whose word is z is no comment, does nothing to the machine, and does not end the session
@@ -37,18 +53,18 @@ module _ (t : List ℕ) (w : ascii "z" ≡ word_of 0 t) where
   unfolding is_comment
   no_comment = subst (λ (v : List ℕ). cond (eqb (length v) 0) true (eqb (get_or v 0 0) 35) ≡ false) w refl
 
-  untouched : (z : Session) (i m s : List ℕ) → apply_of (word_of 0 t) t z.clock i m s ≡ (time_of z.clock, [], i, m, s)
-  unfolding apply_of control_of same
+  untouched : (z : Session) (i m s : List ℕ) → apply_of (command_of (word_of 0 t)) t z.clock i m s ≡ (time_of z.clock, None, i, m, s)
+  unfolding apply_of control_of command_of same
   untouched z i m s =
-      subst (λ (v : List ℕ). apply_of v t z.clock i m s ≡ (time_of z.clock, [], i, m, s)) w refl
+      subst (λ (v : List ℕ). apply_of (command_of v) t z.clock i m s ≡ (time_of z.clock, None, i, m, s)) w refl
 
   goes_on_after : (ended : Bool) → ended_after t ended ≡ ended
-  unfolding ended_after same
-  goes_on_after ended = subst (λ (v : List ℕ). cond (is "q" v) true ended ≡ ended) w refl
+  unfolding command_of same
+  goes_on_after ended = subst (λ (v : List ℕ). ended_by (command_of v) ended ≡ ended) w refl
 
   asked_for : steps_of t ≡ count_or t 1
-  unfolding steps_of same
-  asked_for = subst (λ (v : List ℕ). cond (is "z" v) (count_or t 1) 0 ≡ count_or t 1) w refl
+  unfolding command_of same
+  asked_for = subst (λ (v : List ℕ). steps_by (command_of v) t ≡ count_or t 1) w refl
 
   -- so the turn only says how many cycles are to be stepped
   begun : (z : Session) (i m s : List ℕ) → z.left ≡ 0 → fault_in i t ≡ []

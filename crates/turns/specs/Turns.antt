@@ -1,12 +1,13 @@
 -- What holds of turns: a line with a fault changes nothing, and `z N` makes N cycles. z is the session, i the image, m the bus,
 -- s the storage, t the line.
-use Rattle.std.specs.Prelude.{ℕ, zero, suc, ◌-◌, ◌≤◌, ◌≡◌, true, List, []}
+use Rattle.std.specs.Prelude.{ℕ, zero, suc, ◌-◌, ◌≤◌, ◌≡◌, true, List, [], Some, None, Result}
 use Rattle.text.specs.Typed.{word_of}
 use Rattle.console.specs.declared.session.Session.{Session}
 use Rattle.console.specs.Apply.{count_or}
 use Rattle.lines.specs.Commands.{is}
 use Rattle.console.specs.declared.step.Cycle.{Cycle}
-use Rattle.lines.specs.Clock.{inputs_of, letter_at}
+use Rattle.pane.specs.declared.answers.Refused.{Refused}
+use Rattle.lines.specs.Clock.{inputs_shown, letter_at}
 use Rattle.console.specs.Session.{Machine, fault_in, held_of, machine_of, turn_of}
 use Rattle.console.specs.Step.{cycle_of, time_after}
 
@@ -14,13 +15,13 @@ use Rattle.console.specs.Step.{cycle_of, time_after}
 abbrev pub FaultsChangeNothing : Type 0
 FaultsChangeNothing =
     (t : List ℕ) (z : Session) (i m s : List ℕ) → z.left ≡ 0 → (fault_in i t ≡ [] → ⊥) →
-    turn_of t z i m s ≡ (held_of z i m s, fault_in i t, [])
+    turn_of t z i m s ≡ (held_of z i m s, Some (fault_in i t), None)
 
 -- a bus cycle
 unfoldable pub cycled : Machine → Machine
 cycled x =
-    let y : (Cycle × List ℕ × List ℕ × List ℕ) = cycle_of (inputs_of (letter_at x.0)) x.0.0 x.1 x.2 x.3 in
-    (time_after x.0 y.0.grant, y.1, y.2, y.3)
+    let y : (Result Cycle Refused × List ℕ × List ℕ × List ℕ) = cycle_of (inputs_shown (letter_at x.0)) x.0.0 x.1 x.2 x.3 in
+    (time_after x.0 y.0, y.1, y.2, y.3)
 
 -- n of them
 unfoldable pub cycles : ℕ → Machine → Machine

@@ -27,7 +27,11 @@ stored_new i = go (eqb (length i) image_size) refl
     go true e = ap coded (store_good new_reu i (eqb-true (length i) image_size e) new_well)
     go false e = ap coded (store_other new_reu i (eqb-false (length i) image_size e))
 
-pub returns : goal.returns
-returns c =
+pub returns-in-Ok : goal.returns-in-Ok
+returns-in-Ok c =
+    ap coded (c.in-Ok.ensures ∙ ap (λ (u : Reu). store_image u c.args.image.now) c.new.ensures) ∙ stored_new c.args.image.now
+
+pub returns-in-Err : goal.returns-in-Err
+returns-in-Err c =
     rw c.refused.ensures
-    (ap coded (c.store.ensures ∙ ap (λ (u : Reu). store_image u c.args.image.now) c.new.ensures) ∙ stored_new c.args.image.now)
+    (ap coded (c.in-Err.ensures ∙ ap (λ (u : Reu). store_image u c.args.image.now) c.new.ensures) ∙ stored_new c.args.image.now)

@@ -1,28 +1,20 @@
-use Rattle.std.proofs.Common.{ℕ, List, sym, ap, subst, rules}
-use Rattle.controller.specs.declared.reu.Answer.{Answer}
+use Rattle.std.proofs.Common.{ℕ, List, ap, rules}
+use Rattle.controller.specs.Answers.{Answer}
 use Rattle.controller.specs.Calls.{set_enabled_call}
-use Rattle.reu.proofs.Families.{storage_refused, storage_done, long, sound, bytes_of}
-use Rattle.reu.proofs.Wholes.{set_enabled_whole}
 use Rattle.reu.specs.Exports.{flag}
-use Rattle.reu.specs.Inner.{Whole}
+use Rattle.reu.proofs.Families.{storage_refused, storage_done, kept}
+use Rattle.reu.proofs.Wholes.{set_enabled_whole}
 use Rattle.reu.proofs.reu_set_enabled.Goals as goal
-
-pub returns-then-refusal-ne-ACCEPTED : goal.returns-then-refusal-ne-ACCEPTED
-returns-then-refusal-ne-ACCEPTED c =
-    storage_refused c.args.image.now c.open-opened.result c.open-opened.ensures c.if-refusal-ne-ACCEPTED.true _
-    c.refused.ensures c.args.storage.now (λ u t. set_enabled_call u t (flag c.args.enabled))
 
 pub finish-requires : goal.finish-requires
 finish-requires c =
-    let its_sound = sound c.args.image.now c.open-opened.result c.open-opened.ensures c.if-refusal-ne-ACCEPTED.false (bytes_of c.args.image.now (λ j. search rules)) in
-    record {
-      whole =
-          subst Whole (sym (ap (λ (x : Answer × List ℕ). x.0) c.set_enabled-answer.ensures)) (set_enabled_whole c.open-opened.result.reu its_sound c.args.storage.now (flag c.args.enabled));
-      long = long c.args.image.now c.open-opened.result c.open-opened.ensures c.if-refusal-ne-ACCEPTED.false;
-    }
+    kept c.args.image.now c.in-Ok.reu c.in-Ok.ensures c.set_enabled.result _ (ap (λ (x : Answer × List ℕ). x.0) c.set_enabled.ensures) (λ j. search rules)
+    (λ s. set_enabled_whole _ s c.args.storage.now (flag c.args.enabled))
 
-pub returns : goal.returns
-returns c =
-    storage_done c.args.image.now c.open-opened.result c.open-opened.ensures c.if-refusal-ne-ACCEPTED.false
-    c.args.storage.now (λ u t. set_enabled_call u t (flag c.args.enabled)) _ _ _ _
-    c.set_enabled-answer.ensures c.finish.ensures
+pub returns-in-Ok : goal.returns-in-Ok
+returns-in-Ok c =
+    storage_done c.args.image.now c.in-Ok.reu c.in-Ok.ensures c.args.storage.now _ (λ u t. set_enabled_call u t (flag c.args.enabled)) c.set_enabled.result _ _ c.set_enabled.ensures c.finish.ensures
+
+pub returns-in-Err : goal.returns-in-Err
+returns-in-Err c =
+    storage_refused c.args.image.now c.in-Err.reason c.in-Err.ensures c.args.storage.now (λ u t. set_enabled_call u t (flag c.args.enabled)) _ c.refused.ensures

@@ -10,7 +10,7 @@ pub returns : goal.returns
 unfolding reu_at
 returns c =
     let s = c.args.image.now in
-    let out = listed s c.requires in
-    let regs : c.registers_at-regs.result ≡ gets 0 11 s = c.registers_at-regs.ensures ∙ sym (gets_slice s 0 11 (omega arith)) in
-    let dma : c.dma_at-dma.result ≡ dma_in (lifted fields (gets 0 image_size s)) = c.dma_at-dma.ensures ∙ ap (λ (l : List ℕ). dma_in (lifted fields l)) (sym out) in
+    let out = listed s c.told-image in
+    let regs : c.registers_at.result ≡ gets 0 11 s = c.registers_at.ensures ∙ sym (gets_slice s 0 11 (omega arith)) in
+    let dma : c.dma_at.result ≡ dma_in (lifted fields (gets 0 image_size s)) = c.dma_at.ensures ∙ ap (λ (l : List ℕ). dma_in (lifted fields l)) (sym out) in
     simp (c.size_of.ensures, c.get-4.ensures.value, c.get-3.ensures.value, c.get-2.ensures.value, c.get.ensures.value, dma, regs) (ap reu_at out)

@@ -12,4 +12,4 @@ returns c =
     all_from_lem true
     (eqb (at s (place_of kind)) 0 ∷ eqb (at s (place_of phase)) 0 ∷ eqb c.get-c64.result 0 ∷ eqb c.get-exp.result 0 ∷ eqb c.get-left.result 0 ∷ eqb (at s (place_of latch)) 0 ∷ eqb (at s (place_of options)) 0 ∷ [])
     ∙ (λ i. all_zero (at s (place_of kind) ∷ at s (place_of phase) ∷ c.get-c64.ensures.value i ∷ c.get-exp.ensures.value i ∷ c.get-left.ensures.value i ∷ at s (place_of latch) ∷ at s (place_of options) ∷ []))
-    ∙ ap (λ (l : List ℕ). all_zero (take transfer_fields (drop kind (lifted fields l)))) (listed s c.requires)
+    ∙ ap (λ (l : List ℕ). all_zero (take transfer_fields (drop kind (lifted fields l)))) (listed s c.told-image)

@@ -8,4 +8,4 @@ pub returns : goal.returns
 returns c =
     simp
     (c.length_of-left.ensures, c.get-3.ensures.value, c.get-2.ensures.value, c.get.ensures.value, c.phase_of-phase.ensures, c.from_command-kind.ensures)
-    (ap (λ (s : List ℕ). transfer_of (lifted fields s)) (listed c.args.image.now c.requires))
+    (ap (λ (s : List ℕ). transfer_of (lifted fields s)) (listed c.args.image.now c.told-image))

@@ -1,8 +1,5 @@
-use Rattle.lines.proofs.Bytes.{begun, onward, ended}
+use Rattle.lines.proofs.Bytes.{onward, ended}
 use Rattle.lines.proofs.memory.bytes_line.Goals as goal
-
-pub loop-i-init : goal.loop-i-init
-loop-i-init c = begun _ _ _ _ _ c.address_text-line.ensures
 
 pub loop-i-preserved : goal.loop-i-preserved
 loop-i-preserved c = onward _ _ _ _ _ _ _ c.loop-i.invariant c.loop-i-test.true c.byte_up_to-line.ensures

@@ -6,6 +6,3 @@ use Rattle.lines.proofs.memory.bytes_line.Given as goal
 abbrev pub invariant-loop-i : goal.invariant-loop-i
 invariant-loop-i l =
     bytes_line l.storage l.memory l.from l.end ≡ bytes_text (16 - l.i) l.memory (l.from + l.i) l.end (text_of l.line)
-
-abbrev pub decreases-loop-i : goal.decreases-loop-i
-decreases-loop-i l = 16 - l.i

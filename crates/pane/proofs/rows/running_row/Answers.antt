@@ -7,7 +7,7 @@ pub returns-in-21 : goal.returns-in-21
 unfolding running_row
 returns-in-21 c =
     rw
-    (← c.byte.ensures, ne_eqb _ _ c.if-byte-eq0.false, c.in-21.is, ← c.byte-in-21.ensures, ← c.byte-in-21-2.ensures)
+    (← c.byte.ensures, ne_eqb _ _ c.if-byte-eq0.false, c.in-21.is, ← c.byte-in-21.ensures, ← c.byte-in-21-2.ensures, ← c.from-in-21.ensures)
     (search (rules, then))
 
 pub returns-in-22 : goal.returns-in-22

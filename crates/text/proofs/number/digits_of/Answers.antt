@@ -1,23 +1,23 @@
 use Rattle.std.proofs.Common.{arith}
-use Rattle.text.proofs.Digits.{bad, large, again, done}
+use Rattle.text.proofs.Numerals.{bad, large, again, done}
 use Rattle.text.proofs.number.digits_of.Goals as goal
 
-pub returns-then-base-next : goal.returns-then-base-next
-returns-then-base-next c =
-    bad _ _ _ _ _ _ c.if-s-from.false c.loop-i.invariant.2 c.loop-i-test.true c.digit-next.ensures c.if-base-next.true
+pub returns-in_default : goal.returns-in_default
+returns-in_default c =
+    bad _ _ _ 0 _ (omega arith) c.loop-byte.invariant.1 c.requires.upper_bound c.loop-byte-test.true
+    (rw (← c.from.ensures) c.in_default.ensures.value)
 
-pub returns-then-value-gt16777215 : goal.returns-then-value-gt16777215
-returns-then-value-gt16777215 c =
-    large _ _ _ _ _ _ c.if-s-from.false c.loop-i.invariant.2 c.loop-i-test.true c.digit-next.ensures c.if-base-next.false
-    c.if-value-gt16777215.true
+pub returns-then-value-gt-LARGEST : goal.returns-then-value-gt-LARGEST
+returns-then-value-gt-LARGEST c =
+    large _ _ _ _ _ (omega arith) c.loop-byte.invariant.1 c.requires.upper_bound c.loop-byte-test.true
+    (rw (← c.from.ensures) c.in-Some.ensures.value) c.if-value-gt-LARGEST.true
 
-pub loop-i-preserved : goal.loop-i-preserved
-loop-i-preserved c = (
+pub loop-byte-preserved : goal.loop-byte-preserved
+loop-byte-preserved c = (
   omega arith,
-  omega arith,
-  again _ _ _ _ _ _ c.if-s-from.false c.loop-i.invariant.2 c.loop-i-test.true c.digit-next.ensures c.if-base-next.false
-      c.if-value-gt16777215.false,
+  again _ _ _ _ _ (omega arith) c.loop-byte.invariant.1 c.requires.upper_bound c.loop-byte-test.true
+      (rw (← c.from.ensures) c.in-Some.ensures.value) c.if-value-gt-LARGEST.false,
 )
 
 pub returns : goal.returns
-returns c = done _ _ _ _ 0 _ c.if-s-from.false c.loop-i.invariant.2 c.loop-i-test.false
+returns c = done _ _ _ 0 _ (grind arith) c.loop-byte.invariant.1 c.loop-byte-test.false

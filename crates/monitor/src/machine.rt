@@ -1,0 +1,65 @@
+// The machine that a session is about: a controller by its image, the bus, and as many bytes as the largest storage has.
+use console::session;
+use console::session::{Session, Turned};
+use image::layout::IMAGE_BYTES;
+use lines::memory::{clear_from, empty};
+use pane::rows::lent;
+
+const BUS_BYTES: usize = 65536;
+
+const LARGEST_STORAGE: usize = 524288;
+
+#[derive(Drop)]
+pub struct Machine {
+    pub image: [u8; IMAGE_BYTES],
+    pub bus: [u8; BUS_BYTES],
+    pub storage: [u8; LARGEST_STORAGE],
+}
+
+impl Machine {
+    // One with this image, and every other byte 00.
+    pub(crate) fn with_image(image: [u8; IMAGE_BYTES]) -> Machine {
+        Machine {
+            image,
+            bus: empty::<BUS_BYTES>(),
+            storage: empty::<LARGEST_STORAGE>(),
+        }
+    }
+
+    // A new machine.
+    pub(crate) fn new() -> Machine {
+        let mut image = empty::<IMAGE_BYTES>();
+        reu::reu_new(&mut image);
+        Machine::with_image(image)
+    }
+
+    // The storage that the image sets: the first of the bytes.
+    pub(crate) fn lent(&self) -> &[u8] {
+        let size = lent(&self.image, &self.storage);
+        &self.storage[..size]
+    }
+
+    pub(crate) fn lent_mut(&mut self) -> &mut [u8] {
+        let size = lent(&self.image, &self.storage);
+        &mut self.storage[..size]
+    }
+
+    // After `size` there are zeros behind the storage, so that a larger one has no bytes of a machine before.
+    pub(crate) fn clear_behind(&mut self) {
+        let size = lent(&self.image, &self.storage);
+        clear_from(&mut self.storage, size);
+    }
+
+    // A turn of the session.
+    pub(crate) fn turn<'a>(&mut self, session: Session, line: &'a [u8]) -> Turned<'a> {
+        let size = lent(&self.image, &self.storage);
+        let storage = &mut self.storage[..];
+        session::turn(
+            session,
+            line,
+            &mut self.image,
+            &mut self.bus,
+            &mut storage[..size],
+        )
+    }
+}
