@@ -3,6 +3,9 @@
 // registers and reu are the original's files; dma, memory and timing are in the crate `transfer`, and what needs no more than the eleven
 // registers is in `regs`; each has its part of the original's constants. Four of reu.rs's functions have files of their own: start_dma,
 // finish_dma, bus_action, tick_dma. cycle is run_reu_cycle, from the original's src/memory/memory.rs, and the step over a lent controller.
+//
+// Bus and storage stay two arguments, as the C interface lends them: with a struct of two slices each contract would have one clause more, that it
+// still lends the same two.
 #![tactic(auto)]
 
 mod bus_action;

@@ -31,6 +31,8 @@ fn put(out: &mut [u8], place: usize, end: usize, v: u32)
 
 // ---- numbers of what is no number
 
+// Each flag stands beside its bit. A fold over a list of flags would leave the bits to be counted.
+
 fn flags(r: Reu) -> u8
     ensures { result ≡ flags_of (flag_bits r) }
 {

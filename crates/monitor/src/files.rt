@@ -12,19 +12,14 @@ use std::rt::Files;
 use std::{fs, io, str};
 use text::line::Line;
 
-fn fault<T>(template: &[u8], name: &[u8]) -> Result<T, Line> {
-    Err(Line::new().fill(template, name))
-}
-
 // ---- a file by its name: no name is opened whose bytes are not UTF-8
 
-pub(crate) fn open_read<R: Files>(rt: &R, name: &[u8]) -> Option<R::File> {
-    fs::open(rt, str::from_utf8(name).ok()?).ok()
+fn path(name: &[u8]) -> io::Result<&str> {
+    str::from_utf8(name).map_err(|_| ErrorKind::InvalidInput.into())
 }
 
-// The file is made, or emptied if it is there.
-fn open_overwrite<R: Files>(rt: &R, name: &[u8]) -> Option<R::File> {
-    fs::create(rt, str::from_utf8(name).ok()?).ok()
+pub(crate) fn open_read<R: Files>(rt: &R, name: &[u8]) -> io::Result<R::File> {
+    fs::open(rt, path(name)?)
 }
 
 // ---- saving
@@ -38,18 +33,17 @@ fn keep(file: &impl OpenFile) -> io::Result<()> {
     }
 }
 
-fn write_part(rt: &impl Files, name: &[u8], bytes: &[u8]) -> Option<()> {
-    let mut file = open_overwrite(rt, name)?;
-    file.write_all(bytes).ok()?;
-    keep(&file).ok()
+// The file is made, or emptied if it is there.
+fn write_file(rt: &impl Files, name: &[u8], bytes: &[u8]) -> io::Result<()> {
+    let mut file = fs::create(rt, path(name)?)?;
+    file.write_all(bytes)?;
+    keep(&file)
 }
 
 fn save_part(rt: &impl Files, name: &[u8], part: Part, bytes: &[u8]) -> Result<(), Line> {
     let file = part_name(name, part);
-    match write_part(rt, file.as_bytes(), bytes) {
-        Some(()) => Ok(()),
-        None => fault(b"cannot write %", file.as_bytes()),
-    }
+    let fault = |_| Line::new().fill(b"cannot write %", file.as_bytes());
+    write_file(rt, file.as_bytes(), bytes).map_err(fault)
 }
 
 // The first part that cannot be written is the last that is tried.
@@ -96,20 +90,15 @@ fn read_length(file: &mut impl Read, bytes: &mut [u8]) -> io::Result<Length> {
 // Reads a part into bytes of its length.
 fn read_part(rt: &impl Files, name: &[u8], part: Part, bytes: &mut [u8]) -> Result<(), Line> {
     let file = part_name(name, part);
-    let Some(mut opened) = open_read(rt, file.as_bytes()) else {
-        return fault(
-            b"cannot read %: no such file, or it may not be read",
-            file.as_bytes(),
-        );
+    let fault = |template: &[u8]| Line::new().fill(template, file.as_bytes());
+    let Ok(mut opened) = open_read(rt, file.as_bytes()) else {
+        return Err(fault(b"cannot read %: no such file, or it may not be read"));
     };
     let needed = bytes.len();
     match read_length(&mut opened, bytes) {
         Ok(Length::Exactly(count)) if count == needed => Ok(()),
         Ok(length) => Err(length_fault(name, part, length, needed)),
-        Err(_) => fault(
-            b"cannot read %: it is no file, or reading it failed",
-            file.as_bytes(),
-        ),
+        Err(_) => Err(fault(b"cannot read %: it is no file, or reading it failed")),
     }
 }
 
@@ -117,13 +106,9 @@ fn read_part(rt: &impl Files, name: &[u8], part: Part, bytes: &mut [u8]) -> Resu
 pub(crate) fn read_image(rt: &impl Files, name: &[u8]) -> Result<[u8; IMAGE_BYTES], Line> {
     let mut image = empty::<IMAGE_BYTES>();
     read_part(rt, name, Part::Image, &mut image)?;
-    match answer(reu::reu_dma_active(&image)) {
-        Ok(_) => Ok(image),
-        Err(_) => fault(
-            b"refused: % is no saved machine: a field is out of its range (refusal 2)",
-            name,
-        ),
-    }
+    let told = b"refused: % is no saved machine: a field is out of its range (refusal 2)";
+    answer(reu::reu_dma_active(&image)).map_err(|_| Line::new().fill(told, name))?;
+    Ok(image)
 }
 
 // All three parts. The image says how long the storage is; behind it there are zeros.

@@ -77,8 +77,8 @@ fn main(rt: HostRuntime) -> io::Result<()> {
         return begin(&rt, rt.stdin(), colour);
     };
     match open_read(&rt, name.as_bytes()) {
-        Some(file) => begin(&rt, file, colour),
-        None => say(
+        Ok(file) => begin(&rt, file, colour),
+        Err(_) => say(
             &rt,
             &Line::new().fill(b"cannot read the commands in %", name.as_bytes()),
         ),

@@ -25,6 +25,8 @@ fn say_row(rt: &impl Print, row: &Line, colour: bool) -> io::Result<()> {
     rt.write_all(b"\x1b[0m")
 }
 
+// A row is made by its number, so the loops over them are over numbers.
+
 // The rows of a pane, each with another pane's beside it, where they are to be shown; answers whether any two differ.
 pub(crate) fn show_beside(
     rt: &impl Print,

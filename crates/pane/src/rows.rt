@@ -81,6 +81,7 @@ fn read_gives(image: &[u8], register: u8) -> u8
 
 // ---- the registers
 
+// A register is its number, as in the calls, in an image and in the definitions: an enum of eleven would be turned into it at each use.
 fn register_name(register: u8) -> &'static [u8]
     ensures { result.now ≡ register_name register }
 {
@@ -339,7 +340,7 @@ fn running_row(image: &[u8], row: usize) -> Line
 
 // ---- any of them
 
-// What the controller holds; rows 20 on are empty where no command runs.
+// What the controller holds; rows 20 on are empty where no command runs. A row is its number, since whoever shows a pane goes through them in order.
 #[tactic(auto, unfolding(crate::specs::Rows::held_row))]
 fn held_row(image: &[u8], row: usize) -> Line
     ensures { text_of result ≡ held_row image.now row }

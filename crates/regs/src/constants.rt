@@ -1,4 +1,4 @@
-// The 8726's registers and bits.
+// The 8726's registers and bits. A register is a number and no case of an enum: it is an address's low bits and a place in the array.
 
 pub const REGISTER_COUNT: usize = 11;
 

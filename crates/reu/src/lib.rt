@@ -31,7 +31,8 @@ fn look<F: FnOnce(Reu) -> Result<Answered<u32>, Refusal>>(image: &[u8], call: F)
     }
 }
 
-// A call that changes the controller of an image, which is laid down again.
+// A call that changes the controller of an image, which is laid down again. The four calls that lend bus or storage open the image themselves:
+// what a closure writes in what it captured is not in its contract.
 fn change<F: FnOnce(Reu) -> Result<Answered<u32>, Refusal>>(image: &mut [u8], call: F) -> u32
     requires callable { F.IsAlwaysCallable call }
     requires keeps { Keeps F.post call }

@@ -19,7 +19,7 @@ pub fn word(line: &[u8], wanted: usize) -> &[u8]
         .unwrap_or(&[])
 }
 
-// How many words the line has.
+// How many words the line has. Loops over words go by their number: an iterator over them cannot be handed out, since its type has no name.
 pub fn word_count(line: &[u8]) -> usize
     ensures value { result ≡ words_of line.now }
     ensures upper_bound { result ≤ length line.now }

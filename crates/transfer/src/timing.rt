@@ -15,7 +15,8 @@ pub enum ReuBusAction {
     Transfer,
 }
 
-// What the next granted cycle does on the C64's bus.
+// What the next granted cycle does on the C64's bus. Three cases side by side, as in the original: as an `Option` around two, each match would
+// have the same three arms.
 #[derive(Clone, Copy, Debug, PartialEq, Eq)]
 pub enum ReuC64Access {
     None,
