@@ -111,16 +111,11 @@ pub(crate) fn read_image(rt: &impl Files, name: &[u8]) -> Result<[u8; IMAGE_BYTE
     Ok(image)
 }
 
-// All three parts. The image says how long the storage is; behind it there are zeros.
-fn read_machine(rt: &impl Files, name: &[u8]) -> Result<Machine, Line> {
-    let mut machine = Machine::with_image(read_image(rt, name)?);
-    read_part(rt, name, Part::Bus, &mut machine.bus)?;
-    read_part(rt, name, Part::Storage, machine.lent_mut())?;
-    Ok(machine)
-}
-
-// The machine is changed once all three parts are there.
+// All three parts. The image says how long the storage is, and behind it there are zeros. The machine is changed once all three are there.
 pub(crate) fn open(rt: &impl Files, name: &[u8], machine: &mut Machine) -> Result<(), Line> {
-    *machine = read_machine(rt, name)?;
+    let mut saved = Machine::with_image(read_image(rt, name)?);
+    read_part(rt, name, Part::Bus, &mut saved.bus)?;
+    read_part(rt, name, Part::Storage, saved.lent_mut())?;
+    *machine = saved;
     Ok(())
 }

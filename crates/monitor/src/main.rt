@@ -30,14 +30,14 @@ fn argument(rt: &impl Env, i: usize) -> Option<Line> {
     Some(Line::new().text(&buffer[..count]))
 }
 
-fn turns<S: Read + Drop>(
+fn turns<S: Read>(
     rt: &(impl Files + Print),
-    mut terminal: Terminal<S>,
-    mut machine: Machine,
+    terminal: &mut Terminal<S>,
+    machine: &mut Machine,
 ) -> io::Result<()> {
     let mut session = Session::new();
     for _ in 0..u64::MAX {
-        session = turn(rt, session, &mut terminal, &mut machine)?;
+        session = turn(rt, session, terminal, machine)?;
         if session.ended {
             return Ok(());
         }
@@ -57,12 +57,12 @@ fn begin(
             b"A new machine, not enabled yet. help lists the commands.",
         )?;
     }
-    let terminal = Terminal {
+    let mut terminal = Terminal {
         source,
         colour,
         echo: !typed,
     };
-    turns(rt, terminal, Machine::new())
+    turns(rt, &mut terminal, &mut Machine::new())
 }
 
 // Commands come from standard input, or from the file that an argument names: the first, or the one after --colour. It ends with an
