@@ -1,5 +1,5 @@
 -- Worked examples of the definitions, with what was expected written by hand: no command, what is said of a refused image and of a size, and the marks.
-use Rattle.std.proofs.Common.{◌≡◌, ℕ, true, false, List, [], ◌∷◌, Some, None, Result, Ok, Err, arith, replicate, refl}
+use Rattle.std.proofs.Common.{◌≡◌, ℕ, true, false, List, [], ◌∷◌, map, Some, None, Result, Ok, Err, arith, replicate, refl}
 use Rattle.image.specs.Layout.{image_size}
 use Rattle.controller.specs.Refusals.{checked}
 use Rattle.image.specs.Open.{bytes_ok, image_ok, open_image}
@@ -9,13 +9,15 @@ use Rattle.text.specs.Typed.{digits_from, number_of, same, word_from}
 use Rattle.lines.specs.declared.clock.Clock.{Clock}
 use Rattle.console.specs.declared.step.Cycle.{Cycle}
 use Rattle.pane.specs.declared.answers.Refused.{Refused}
-use Rattle.transfer.specs.declared.timing.ReuBusAction.TheVariants.{Transfer}
-use Rattle.transfer.specs.declared.timing.ReuC64Access.TheVariants.{Read}
+use Rattle.transfer.specs.declared.timing.ReuBusAction.TheVariants.{Cpu, Hold, Transfer}
+use Rattle.transfer.specs.declared.timing.ReuC64Access.TheVariants.{Read, Write}
+use Rattle.transfer.specs.declared.timing.ReuC64Access.{ReuC64Access}
+use Rattle.transfer.specs.declared.timing.ReuBusAction.{ReuBusAction}
 use Rattle.lines.specs.Keys.{command_of}
 use Rattle.console.specs.Apply.{apply_of, control_of, size_text, sized}
 use Rattle.lines.specs.Clock.{time_of}
 use Rattle.console.specs.Registers.{read_text, warning_of}
-use Rattle.console.specs.Step.{access_text, advanced, ba_text, bytes_by, counted, done_text, cycle_line, go_of, marks_of, passed_text, refused_in, run_line, run_text, started}
+use Rattle.console.specs.Step.{access_in, access_text, action_in, advanced, ba_text, bytes_by, counted, done_text, cycle_line, go_of, marks_of, passed_text, refused_in, run_line, run_text, started}
 
 -- a word that only ends in a name is no command: nothing is done
 left_alone :
@@ -68,20 +70,28 @@ size_of_none = refl
 -- ---- the marks: a cycle that was granted answers 1, plus 2 for the C64's and plus 4 for the expansion's
 
 unfoldable granted : ℕ → Result Cycle Refused
-granted answer = Ok record { grant = Transfer; access = Read record { 0 = 0xFFFF }; offset = 0x7FFFF; passed = marks_of answer }
+granted answer = Ok record { grant = action_in 2; access = access_in 0x1FFFF; offset = 0x7FFFF; passed = marks_of answer }
 
 over_both :
     cycle_line fifth (granted 7) [] []
     ≡ ascii "+5  BA high  Transfer  read  FFFF  bus 00  storage 7FFFF 00  c64 passed FFFF  exp passed FFFFFF"
-unfolding fifth granted cycle_line done_text access_text bytes_by passed_text ba_text hex_of decimal_up_to ◌⊕◌
+unfolding fifth granted access_in cycle_line done_text access_text bytes_by passed_text ba_text hex_of decimal_up_to ◌⊕◌
 over_both = refl
 
 over_neither :
     cycle_line fifth (granted 1) [] [] ≡ ascii "+5  BA high  Transfer  read  FFFF  bus 00  storage 7FFFF 00"
-unfolding fifth granted cycle_line done_text access_text bytes_by passed_text ba_text hex_of decimal_up_to ◌⊕◌
+unfolding fifth granted access_in cycle_line done_text access_text bytes_by passed_text ba_text hex_of decimal_up_to ◌⊕◌
 over_neither = refl
 
 -- one mark and then none: it stays for the rest of the run
 over_once : (counted (counted (started fifth) (granted 5)) (granted 1)).passed ≡ record { c64 = false; expansion = true }
 unfolding fifth granted counted
 over_once = refl
+
+-- the numbers of the calls, back: every action's
+every_action : map action_in (0 ∷ 1 ∷ 2 ∷ []) ≡ Cpu ∷ Hold ∷ Transfer ∷ []
+every_action = refl
+
+a_read_and_a_write : map access_in (0x1FFFF ∷ 0x21000 ∷ []) ≡ Read record { 0 = 0xFFFF } ∷ Write record { 0 = 0x1000 } ∷ []
+unfolding access_in
+a_read_and_a_write = refl

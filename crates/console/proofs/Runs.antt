@@ -1,5 +1,5 @@
 -- A cycle, a cycle more, and a run of them: what the calls answered and left put together.
-use Rattle.std.proofs.Common.{◌≡◌, ℕ, suc, ◌+◌, ◌-◌, ◌/◌, ◌%◌, ◌<◌, ◌≤◌, Bool, true, false, cond, eqb, List, length, Result, Ok, Err, sym, refl, ap, ◌∙◌, arith, eq-eqb, eqb-true}
+use Rattle.std.proofs.Common.{◌≡◌, ℕ, zero, suc, ◌+◌, ◌-◌, ◌/◌, ◌%◌, ◌<◌, ◌≤◌, Bool, true, false, cond, eqb, List, length, Result, Ok, Err, sym, refl, ap, ◌∙◌, arith, eq-eqb, ne_eqb, eqb-true}
 use mathlib.Core.Bool.{false≢true}
 use borrow.Author.Tests.{eqb-false}
 use Rattle.transfer.specs.Constants.{bus_size}
@@ -9,7 +9,9 @@ use Rattle.transfer.specs.declared.dma.Passed.{Passed}
 use Rattle.transfer.specs.declared.timing.ReuBusAction.{ReuBusAction}
 use Rattle.transfer.specs.declared.timing.ReuC64Access.{ReuC64Access}
 use Rattle.image.specs.Layout.{place_of, transfer_exp}
-use Rattle.reu.specs.Exports.{refusal_unit, reu_bus_action, reu_cycle}
+use Rattle.image.specs.Open.{open_image}
+use Rattle.controller.specs.Refusals.{checked}
+use Rattle.reu.specs.Exports.{look, refusal, refusal_unit, reu_bus_action, reu_cycle, reu_dma_active}
 use Rattle.pane.specs.declared.answers.Refused.{Refused}
 use Rattle.pane.specs.Answers.{accepted}
 use Rattle.pane.specs.Rows.{copy_of, long_at, size_in}
@@ -133,3 +135,19 @@ turn limit n x y h e =
 pub over : (limit n : ℕ) (x : Running) → limit ≤ n → x ≡ go_of (limit - n) x
 unfolding go_of
 over limit n x h = let none : limit - n ≡ 0 = omega arith in sym (ap (λ (k : ℕ). go_of k x) none)
+
+-- a refused image runs no cycle, however many are asked for
+active_refused : (i : List ℕ) → ((open_image i).refusal ≡ 0 → ⊥) → refusal (open_image i).refusal ≡ reu_dma_active i
+unfolding look checked
+active_refused i bad = rw (ne_eqb (open_image i).refusal 0 bad) refl
+
+idle : (x : Running) (active : ℕ) → active ≡ reu_dma_active x.1 → (active ≡ 1 → ⊥) → advanced x ≡ x
+unfolding advanced
+idle x active a h = rw (← a, ne_eqb active 1 h) refl
+
+pub refused_run : (n : ℕ) (x : Running) → ((open_image x.1).refusal ≡ 0 → ⊥) → go_of n x ≡ x
+unfolding go_of
+refused_run zero x bad = refl
+refused_run (suc k) x bad =
+    let other : refusal (open_image x.1).refusal ≡ 1 → ⊥ = λ e. omega arith in
+    ap (go_of k) (idle x _ (active_refused x.1 bad) other) ∙ refused_run k x bad

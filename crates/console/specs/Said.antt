@@ -4,6 +4,7 @@ use Rattle.std.specs.Borrow.{Bor}
 use Rattle.text.specs.declared.line.Line.{Line}
 use Rattle.text.specs.Shown.{text_of}
 
+-- the text of a line that is said, and of the line that was obeyed, where there is one
 abbrev pub said_of : Option Line → Option (List ℕ)
 said_of None = None
 said_of (Some line) = Some (text_of line)

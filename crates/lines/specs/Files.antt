@@ -6,11 +6,13 @@ use Rattle.lines.specs.declared.files.Part.TheVariants.{Image, Bus, Storage}
 use Rattle.lines.specs.declared.files.Length.{Length}
 use Rattle.lines.specs.declared.files.Length.TheVariants.{Exactly, MoreThan}
 
+-- the image has the name that is given, the bus and the storage have theirs behind it
 abbrev pub suffix_of : Part → List ℕ
 suffix_of Image = []
 suffix_of Bus = ascii ".bus"
 suffix_of Storage = ascii ".storage"
 
+-- a name with what its part has behind it
 abbrev pub part_name : List ℕ → Part → List ℕ
 part_name name Image = name
 part_name name Bus = name ⊕ ascii ".bus"

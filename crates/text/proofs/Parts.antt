@@ -140,3 +140,21 @@ word_is s wanted = sym (word_ahead wanted 0 wanted false s (omega arith))
 pub shows : {R : Type 0} (now : R → List ℕ) (r : Option R) (other : R) → now (unwrap_or r other) ≡ unwrap_or (option_map now r) (now other)
 shows now None other = refl
 shows now (Some x) other = refl
+
+-- ---- its length
+
+one_kept : (b q : Bool) (x y : List ℕ) (a n : ℕ) → length x ≤ n → length y ≤ n → length (cond b x (cond q (a ∷ []) [] ++ y)) ≤ suc n
+one_kept true q x y a n h k = omega arith
+one_kept false true x y a n h k = omega arith
+one_kept false false x y a n h k = omega arith
+
+word_length : (wanted ended : ℕ) (inside : Bool) (s : List ℕ) → length (word_from wanted ended inside s) ≤ length s
+unfolding word_from
+word_length wanted ended inside [] = omega arith
+word_length wanted ended inside (b ∷ s) =
+    one_kept (is_blank b) (eqb ended wanted) _ _ b (length s) (word_length wanted (ended + cond inside 1 0) false s)
+    (word_length wanted ended true s)
+
+-- a word is no longer than the text that it is in
+pub word_within : (s : List ℕ) (wanted : ℕ) → length (word_of wanted s) ≤ length s
+word_within s wanted = word_length wanted 0 false s

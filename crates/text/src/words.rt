@@ -11,7 +11,8 @@ fn is_blank(byte: u8) -> bool
 // The word with a number, from 0 on. Where the line has fewer words it has no bytes, and is no `None`: no word of a line is empty, and this
 // is what a message shows of one that was not typed.
 pub fn word(line: &[u8], wanted: usize) -> &[u8]
-    ensures { result.now ≡ word_of wanted line.now }
+    ensures value { result.now ≡ word_of wanted line.now }
+    ensures upper_bound { length result.now ≤ length line.now }
 {
     line.split(|byte| is_blank(*byte))
         .filter(|part| !part.is_empty())

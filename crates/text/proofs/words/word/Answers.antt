@@ -5,11 +5,11 @@ use Rattle.std.proofs.lemmas.Option.{unwrap_or-slice_get}
 use Rattle.std.specs.Prelude.{Option}
 use Rattle.std.specs.Option.{unwrap_or}
 use Rattle.text.specs.Typed.{is_blank}
-use Rattle.text.proofs.Parts.{shows, some, word_is}
+use Rattle.text.proofs.Parts.{shows, some, word_is, word_within}
 use Rattle.text.proofs.words.word.Goals as goal
 
-pub returns : goal.returns
-returns c =
+pub returns-clause-value : goal.returns-clause-value
+returns-clause-value c =
     ap (λ (r : Bor (List ℕ)). r.now) c.unwrap_or.ensures
     ∙ shows (λ (r : Bor (List ℕ)). r.now) c.nth.result _
     ∙ ap (λ (o : Option (List ℕ)). unwrap_or o [])
@@ -21,3 +21,6 @@ returns c =
     c.filter.ensures.closure (λ x r q k. search (rules, tests))))
     ∙ unwrap_or-slice_get _ c.args.wanted []
     ∙ word_is c.args.line.now c.args.wanted
+
+pub returns-clause-upper_bound : goal.returns-clause-upper_bound
+returns-clause-upper_bound c = rw (returns-clause-value c) (word_within c.args.line.now c.args.wanted)
