@@ -1,8 +1,6 @@
 -- L3: remaining in two bytes of the image. Quotations are L3's words.
-use Rattle.std.specs.Prelude.{ℕ, ◌+◌, ◌≤◌, ◌<◌, true, false, ◌≡◌, ◌≢◌, List, [], ◌∷◌, map, length, set, take, drop, replicate}
+use Rattle.std.specs.Prelude.{ℕ, ◌+◌, ◌≤◌, ◌<◌, true, false, ◌≡◌, ◌≢◌, List, [], ◌∷◌, map, length, set, take, drop, replicate, Option, None, Some}
 use Rattle.transfer.specs.declared.dma.DmaState.{DmaState}
-use Rattle.std.specs.Prelude.{Option}
-use Rattle.std.specs.Prelude.{None, Some}
 use Rattle.transfer.specs.Bytes.{low_byte, high_byte, word}
 use Rattle.transfer.specs.Constants.{full_length}
 use Rattle.transfer.specs.Dma.{length_of}

@@ -11,8 +11,6 @@ use Rattle.console.specs.declared.step.Cycle.{Cycle}
 use Rattle.pane.specs.declared.answers.Refused.{Refused}
 use Rattle.transfer.specs.declared.timing.ReuBusAction.TheVariants.{Cpu, Hold, Transfer}
 use Rattle.transfer.specs.declared.timing.ReuC64Access.TheVariants.{Read, Write}
-use Rattle.transfer.specs.declared.timing.ReuC64Access.{ReuC64Access}
-use Rattle.transfer.specs.declared.timing.ReuBusAction.{ReuBusAction}
 use Rattle.lines.specs.Keys.{command_of}
 use Rattle.console.specs.Apply.{apply_of, control_of, size_text, sized}
 use Rattle.lines.specs.Clock.{time_of}

@@ -1,4 +1,6 @@
+pub mod Answered
 pub mod Asked
+pub mod ByNumber
 pub mod Cycles
 pub mod Examples
 pub mod Runs

@@ -1,13 +1,16 @@
 -- A cycle, a cycle more, and a run of them: what the calls answered and left put together.
-use Rattle.std.proofs.Common.{◌≡◌, ℕ, zero, suc, ◌+◌, ◌-◌, ◌/◌, ◌%◌, ◌<◌, ◌≤◌, Bool, true, false, cond, eqb, List, length, Result, Ok, Err, sym, refl, ap, ◌∙◌, arith, eq-eqb, ne_eqb, eqb-true}
+use Rattle.std.proofs.Common.{◌≡◌, Bool, ℕ, zero, suc, ◌+◌, ◌-◌, ◌/◌, ◌%◌, ◌<◌, ◌≤◌, true, false, cond, List, length, Option, Some, None, Result, Ok, Err, sym, refl, ap, ◌∙◌, arith, ne_eqb}
 use mathlib.Core.Bool.{false≢true}
-use borrow.Author.Tests.{eqb-false}
+use mathlib.Core.Logic.{◌⊎◌, inl, inr}
+use Rattle.std.specs.Prelude.{is_some, unwrap_or}
 use Rattle.transfer.specs.Constants.{bus_size}
 use Rattle.transfer.specs.Bytes.{bit_of}
 use Rattle.transfer.specs.Dma.{neither}
 use Rattle.transfer.specs.declared.dma.Passed.{Passed}
 use Rattle.transfer.specs.declared.timing.ReuBusAction.{ReuBusAction}
 use Rattle.transfer.specs.declared.timing.ReuC64Access.{ReuC64Access}
+use mir.Val.{bool_byte}
+use Rattle.image.proofs.Flags.{byte_is_bit}
 use Rattle.image.specs.Layout.{place_of, transfer_exp}
 use Rattle.image.specs.Open.{open_image}
 use Rattle.controller.specs.Refusals.{checked}
@@ -17,17 +20,21 @@ use Rattle.pane.specs.Answers.{accepted}
 use Rattle.pane.specs.Rows.{copy_of, long_at, size_in}
 use Rattle.lines.specs.declared.clock.Inputs.{Inputs}
 use Rattle.console.specs.declared.step.Cycle.{Cycle}
-use Rattle.console.specs.Step.{Running, access_ready, action_in, advanced, asked_of, cycle_of, go_of, marks_of, not_asked, refused_in, with_marks}
+use Rattle.console.specs.Step.{Running, access_ready, action_in, advanced, asked_of, cycle_of, go_of, marks_of, refused_in, with_marks}
 use Rattle.console.proofs.Cycles.{asking_changes_nothing, other_bus}
 
 -- a code that is not accepted is not 0
 pub some_code : {code : ℕ} → accepted code ≡ false → code ≡ 0 → ⊥
 some_code e z = false≢true (sym e ∙ ap accepted z)
 
+-- an input, as a call takes it
+as_bit : {n : ℕ} (b : Bool) → n ≡ bool_byte b → n ≡ bit_of b
+as_bit b e = e ∙ byte_is_bit b
+
 -- ---- the grant that is asked for, with the access and the offset
 
-module _ (inputs : Inputs) (number : ℕ) (i s : List ℕ) {lent : ℕ} {copy j t : List ℕ} {code high phi1 : ℕ}
-    (h : lent ≡ bus_size) (c : copy ≡ copy_of i) (hi : high ≡ bit_of inputs.ba_high) (lo : phi1 ≡ bit_of inputs.ba_high_phi1)
+module _ (inputs : Inputs) (number : ℕ) (i s : List ℕ) {copy j t : List ℕ} {code high phi1 : ℕ}
+    (c : copy ≡ copy_of i) (hi : high ≡ bool_byte inputs.ba_high) (lo : phi1 ≡ bool_byte inputs.ba_high_phi1)
     (g : (code, j, t) ≡ reu_bus_action copy s high phi1 number) where
   abbrev granted : ℕ → List ℕ → Cycle
   granted n k =
@@ -36,93 +43,111 @@ module _ (inputs : Inputs) (number : ℕ) (i s : List ℕ) {lent : ℕ} {copy j 
   abbrev by : (ℕ × List ℕ × List ℕ) → (Result Cycle Refused × List ℕ)
   by y = (cond (accepted y.0) (Ok (granted y.0 y.1)) (Err (refused_in y.0)), y.2)
 
-  told : by (code, j, t) ≡ cond (eqb lent bus_size) (asked_of inputs number i s) (not_asked, s)
+  told : by (code, j, t) ≡ asked_of inputs number i s
   unfolding asked_of
-  told =
-      rw (eq-eqb lent bus_size h)
-      (ap by (g ∙ (λ x. reu_bus_action (c x) s (hi x) (lo x) number)))
+  told = ap by (g ∙ (λ x. reu_bus_action (c x) s (as_bit _ hi x) (as_bit _ lo x) number))
 
   pub asked : {n at size : ℕ} {action : ReuBusAction} {access : ReuC64Access} → (accepted code ≡ true) × (n ≡ code)
       → action ≡ action_in n → access ≡ access_ready j → at ≡ long_at j (place_of transfer_exp) → size ≡ size_in j
       → ◌≡◌ {A = Result Cycle Refused × List ℕ} (Ok record { grant = action; access = access; offset = at % size; passed = neither }, t)
-      (cond (eqb lent bus_size) (asked_of inputs number i s) (not_asked, s))
+      (asked_of inputs number i s)
   asked ok a b o z =
       let act = a ∙ ap action_in ok.1 in
       let q : ◌≡◌ {A = Result Cycle Refused × List ℕ} (by (code, j, t)) (Ok (granted code j), t) = rw ok.0 refl in
       (λ x. (Ok record { grant = act x; access = b x; offset = o x % z x; passed = neither }, t)) ∙ sym q ∙ told
 
   pub unasked : {r : Refused} → (accepted code ≡ false) × (r.number ≡ code / refusal_unit)
-      → ◌≡◌ {A = Result Cycle Refused × List ℕ} (Err r, t) (cond (eqb lent bus_size) (asked_of inputs number i s) (not_asked, s))
+      → ◌≡◌ {A = Result Cycle Refused × List ℕ} (Err r, t) (asked_of inputs number i s)
   unasked e =
       let q : ◌≡◌ {A = Result Cycle Refused × List ℕ} (by (code, j, t)) (Err (refused_in code), t) = rw e.0 refl in
       (λ x. (Err record { number = e.1 x }, t)) ∙ sym q ∙ told
 
--- ---- a cycle, from what was asked before it and what it answered and left
+-- ---- a cycle, from what was asked before it, o, and the storage t that this left
 
-module _ (inputs : Inputs) (number : ℕ) (i m s : List ℕ) (x : Result Cycle Refused) (t : List ℕ)
-    (a : (x, t) ≡ cond (eqb (length m) bus_size) (asked_of inputs number i s) (not_asked, s)) {high low phi1 : ℕ}
-    (hi : high ≡ bit_of inputs.ba_high) (lo : low ≡ bit_of inputs.ba_low) (ph : phi1 ≡ bit_of inputs.ba_high_phi1)
-    (k : ℕ × List ℕ × List ℕ × List ℕ) (c : k ≡ reu_cycle i m t high number low phi1) where
-  abbrev cycle : List ℕ → (ℕ × List ℕ × List ℕ × List ℕ)
-  cycle l = reu_cycle i m l (bit_of inputs.ba_high) number (bit_of inputs.ba_low) (bit_of inputs.ba_high_phi1)
+module _ (inputs : Inputs) (number : ℕ) (i m s : List ℕ) (o : Option (Result Cycle Refused)) (t : List ℕ) where
+  -- on a bus of the right length the grant was asked for; on another nothing was
+  abbrev pub Before : Type 0
+  Before =
+      ((length m ≡ bus_size) × ((x : Result Cycle Refused) × (o ≡ Some x) × ((x, t) ≡ asked_of inputs number i s)))
+      ⊎ ((length m ≡ bus_size → ⊥) × (o ≡ None) × (t ≡ s))
 
-  bits : k ≡ cycle t
-  bits = c ∙ (λ j. reu_cycle i m t (hi j) number (lo j) (ph j))
+  module _ (b : Before) {high low phi1 : ℕ}
+      (hi : high ≡ bool_byte inputs.ba_high) (lo : low ≡ bool_byte inputs.ba_low) (ph : phi1 ≡ bool_byte inputs.ba_high_phi1)
+      (k : ℕ × List ℕ × List ℕ × List ℕ) (c : k ≡ reu_cycle i m t high number low phi1) where
+    abbrev cycle : List ℕ → (ℕ × List ℕ × List ℕ × List ℕ)
+    cycle l = reu_cycle i m l (bit_of inputs.ba_high) number (bit_of inputs.ba_low) (bit_of inputs.ba_high_phi1)
 
-  -- as if nothing had been asked; and a cycle that is accepted had a bus of the right length, so that it was asked
-  both : (b : Bool) → eqb (length m) bus_size ≡ b → (x, t) ≡ cond b (asked_of inputs number i s) (not_asked, s)
-      → (k ≡ cycle s) × (accepted (cycle s).0 ≡ true → x ≡ (asked_of inputs number i s).0)
-  unfolding asked_of
-  both true e p = (
-    bits ∙ ap (λ (y : Result Cycle Refused × List ℕ). cycle y.1) p
-        ∙ asking_changes_nothing m (eqb-true _ _ e) s (bit_of inputs.ba_high) number (bit_of inputs.ba_low) (bit_of inputs.ba_high_phi1) i,
-    λ h. ap (λ (y : Result Cycle Refused × List ℕ). y.0) p,
-  )
-  both false e p = (
-    bits ∙ ap (λ (y : Result Cycle Refused × List ℕ). cycle y.1) p,
-    λ h. absurd (false≢true (sym (other_bus m (eqb-false _ _ e) i s (bit_of inputs.ba_high) number (bit_of inputs.ba_low) (bit_of inputs.ba_high_phi1)) ∙ h)),
-  )
+    bits : k ≡ cycle t
+    bits = c ∙ (λ j. reu_cycle i m t (as_bit _ hi j) number (as_bit _ lo j) (as_bit _ ph j))
 
-  same : (k ≡ cycle s) × (accepted (cycle s).0 ≡ true → x ≡ (asked_of inputs number i s).0)
-  same = both (eqb (length m) bus_size) refl a
+    -- as if nothing had been asked
+    unasked_or : Before → k ≡ cycle s
+    unfolding asked_of
+    unasked_or (inl p) =
+        bits ∙ ap (λ (y : Result Cycle Refused × List ℕ). cycle y.1) p.1.2
+        ∙ asking_changes_nothing m p.0 s (bit_of inputs.ba_high) number (bit_of inputs.ba_low) (bit_of inputs.ba_high_phi1) i
+    unasked_or (inr p) = bits ∙ ap cycle p.2
 
-  is : accepted k.0 ≡ accepted (cycle s).0
-  is = ap (λ (y : ℕ × List ℕ × List ℕ × List ℕ). accepted y.0) same.0
+    same : k ≡ cycle s
+    same = unasked_or b
 
-  abbrev Done : Type 0
-  Done = Result Cycle Refused × List ℕ × List ℕ × List ℕ
+    is : accepted k.0 ≡ accepted (cycle s).0
+    is = ap (λ (y : ℕ × List ℕ × List ℕ × List ℕ). accepted y.0) same
 
-  shown : accepted k.0 ≡ true → ◌≡◌ {A = Done} (with_marks x k.0, k.1, k.2, k.3) (cycle_of inputs number i m s)
-  unfolding cycle_of
-  shown ok =
-      let here : accepted (cycle s).0 ≡ true = sym is ∙ ok in
-      rw here (λ j. (with_marks (same.1 here j) (same.0 j).0, (same.0 j).1, (same.0 j).2, (same.0 j).3))
+    -- a cycle that is accepted had a bus of the right length, so that it was asked
+    never : (length m ≡ bus_size → ⊥) → accepted k.0 ≡ true → ⊥
+    never other ok =
+        let no = other_bus m other i s (bit_of inputs.ba_high) number (bit_of inputs.ba_low) (bit_of inputs.ba_high_phi1) in
+        false≢true (sym no ∙ sym is ∙ ok)
 
-  pub ran : {n : ℕ} {y : Cycle} {p : Passed} → (accepted k.0 ≡ true) × (n ≡ k.0) → x ≡ Ok y → p ≡ marks_of n
-      → ◌≡◌ {A = Done} (Ok record { grant = y.grant; access = y.access; offset = y.offset; passed = p }, k.1, k.2, k.3)
-      (cycle_of inputs number i m s)
-  ran {y = y} ok e q =
-      let marks = q ∙ ap marks_of ok.1 in
-      let as_asked : ◌≡◌ {A = Done} (with_marks x k.0, k.1, k.2, k.3) (with_marks (Ok y) k.0, k.1, k.2, k.3) =
-      λ j. (with_marks (e j) k.0, k.1, k.2, k.3) in
-      (λ j. (Ok record { grant = y.grant; access = y.access; offset = y.offset; passed = marks j }, k.1, k.2, k.3))
-      ∙ sym as_asked ∙ shown ok.0
+    asked_by : {x : Result Cycle Refused} → Before → accepted k.0 ≡ true → o ≡ Some x → x ≡ (asked_of inputs number i s).0
+    asked_by {x} (inl p) ok e =
+        ap (λ (y : Option (Result Cycle Refused)). unwrap_or y x) (sym e ∙ p.1.1)
+        ∙ ap (λ (y : Result Cycle Refused × List ℕ). y.0) p.1.2
+    asked_by (inr p) ok e = absurd (never p.0 ok)
 
-  pub ran_unasked : {r : Refused} → accepted k.0 ≡ true → x ≡ Err r
-      → ◌≡◌ {A = Done} (Err r, k.1, k.2, k.3) (cycle_of inputs number i m s)
-  ran_unasked {r} ok e =
-      let as_asked : ◌≡◌ {A = Done} (with_marks x k.0, k.1, k.2, k.3) (with_marks (Err r) k.0, k.1, k.2, k.3) =
-      λ j. (with_marks (e j) k.0, k.1, k.2, k.3) in
-      sym as_asked ∙ shown ok
+    no_none : Before → accepted k.0 ≡ true → o ≡ None → ⊥
+    no_none (inl p) ok e = false≢true (ap is_some (sym e ∙ p.1.1))
+    no_none (inr p) ok e = never p.0 ok
 
-  pub not_run : {r : Refused} → (accepted k.0 ≡ false) × (r.number ≡ k.0 / refusal_unit)
-      → ◌≡◌ {A = Done} (Err r, k.1, k.2, k.3) (cycle_of inputs number i m s)
-  unfolding cycle_of
-  not_run e =
-      let no : accepted (cycle s).0 ≡ false = sym is ∙ e.0 in
-      rw no
-      ((λ j. (Err record { number = e.1 j }, k.1, k.2, k.3))
-      ∙ (λ j. (Err (refused_in (same.0 j).0), (same.0 j).1, (same.0 j).2, (same.0 j).3)))
+    pub was_asked : accepted k.0 ≡ true → o ≡ None → ⊥
+    was_asked = no_none b
+
+    abbrev Done : Type 0
+    Done = Result Cycle Refused × List ℕ × List ℕ × List ℕ
+
+    pub not_run : {r : Refused} → (accepted k.0 ≡ false) × (r.number ≡ k.0 / refusal_unit)
+        → ◌≡◌ {A = Done} (Err r, k.1, k.2, k.3) (cycle_of inputs number i m s)
+    unfolding cycle_of
+    not_run e =
+        let no : accepted (cycle s).0 ≡ false = sym is ∙ e.0 in
+        rw no
+        ((λ j. (Err record { number = e.1 j }, k.1, k.2, k.3))
+        ∙ (λ j. (Err (refused_in (same j).0), (same j).1, (same j).2, (same j).3)))
+
+    module _ {x : Result Cycle Refused} (e : o ≡ Some x) where
+      shown : accepted k.0 ≡ true → ◌≡◌ {A = Done} (with_marks x k.0, k.1, k.2, k.3) (cycle_of inputs number i m s)
+      unfolding cycle_of
+      shown ok =
+          let here : accepted (cycle s).0 ≡ true = sym is ∙ ok in
+          rw here (λ j. (with_marks (asked_by b ok e j) (same j).0, (same j).1, (same j).2, (same j).3))
+
+      pub ran : {n : ℕ} {y : Cycle} {p : Passed} → (accepted k.0 ≡ true) × (n ≡ k.0) → x ≡ Ok y → p ≡ marks_of n
+          → ◌≡◌ {A = Done} (Ok record { grant = y.grant; access = y.access; offset = y.offset; passed = p }, k.1, k.2, k.3)
+          (cycle_of inputs number i m s)
+      ran {y = y} ok f q =
+          let marks = q ∙ ap marks_of ok.1 in
+          let as_asked : ◌≡◌ {A = Done} (with_marks x k.0, k.1, k.2, k.3) (with_marks (Ok y) k.0, k.1, k.2, k.3) =
+          λ j. (with_marks (f j) k.0, k.1, k.2, k.3) in
+          (λ j. (Ok record { grant = y.grant; access = y.access; offset = y.offset; passed = marks j }, k.1, k.2, k.3))
+          ∙ sym as_asked ∙ shown ok.0
+
+      pub ran_unasked : {r : Refused} → accepted k.0 ≡ true → x ≡ Err r
+          → ◌≡◌ {A = Done} (Err r, k.1, k.2, k.3) (cycle_of inputs number i m s)
+      ran_unasked {r} ok f =
+          let as_asked : ◌≡◌ {A = Done} (with_marks x k.0, k.1, k.2, k.3) (with_marks (Err r) k.0, k.1, k.2, k.3) =
+          λ j. (with_marks (f j) k.0, k.1, k.2, k.3) in
+          sym as_asked ∙ shown ok
 
 -- ---- a run: a cycle, and one less to go
 

@@ -61,6 +61,7 @@ abbrev pub steps_by : Option Command → List ℕ → ℕ
 steps_by (Some Z) t = count_or t 1
 steps_by other t = 0
 
+-- the steps that a line asks for, by its first word
 abbrev pub steps_of : List ℕ → ℕ
 steps_of t = steps_by (command_of (word_of 0 t)) t
 
@@ -69,6 +70,7 @@ abbrev pub ended_by : Option Command → Bool → Bool
 ended_by (Some Q) ended = true
 ended_by other ended = ended
 
+-- whether a session has ended after a line, by the line's first word
 abbrev pub ended_after : List ℕ → Bool → Bool
 ended_after t ended = ended_by (command_of (word_of 0 t)) ended
 

@@ -52,10 +52,6 @@ asked_of inputs number i s =
       g.2,
     )
 
--- of a cycle that is lent a bus of another length nothing is asked
-abbrev pub not_asked : Result Cycle Refused
-not_asked = Err record { number = 0 }
-
 -- which address ran over its top, by the cycle's answer: "plus 2 and plus 4"
 abbrev pub marks_of : ℕ → Passed
 marks_of answer = record { c64 = bit answer 1; expansion = bit answer 2 }
@@ -86,11 +82,13 @@ ba_text t letter =
     (cond (eqb letter 102) (t ⊕ ascii "  BA falls ")
     (cond (eqb letter 114) (t ⊕ ascii "  BA rises ") (t ⊕ ascii "  BA " ⊕ (letter ∷ []) ⊕ ascii "     "))))
 
+-- the name of a grant, "Cpu, Hold, Transfer", in eight columns
 abbrev pub grant_text : ReuBusAction → List ℕ
 grant_text Cpu = ascii "Cpu     "
 grant_text Hold = ascii "Hold    "
 grant_text Transfer = ascii "Transfer"
 
+-- an access: "a read" or "a write", and "the address"
 unfoldable pub access_text : List ℕ → ReuC64Access → List ℕ
 access_text t None = t ⊕ ascii "  no access"
 access_text t (Read a) = t ⊕ ascii "  read  " ⊕ hex_of 4 a.0
@@ -137,11 +135,12 @@ started c = record { clock = c; granted = 0; held = 0; passed = neither }
 abbrev pub either_of : Passed → Passed → Passed
 either_of p q = record { c64 = p.c64 || q.c64; expansion = p.expansion || q.expansion }
 
--- a cycle more; 64 bits. Its marks stay for the rest of the run. One that is refused is none
+-- a cycle more by its grant; 64 bits
 abbrev pub counted_by : ReuBusAction → Run → Passed → Run
 counted_by Transfer r p = record { clock = next_clock r.clock; granted = (r.granted + 1) % 2 ^ 64; held = r.held; passed = p }
 counted_by other r p = record { clock = next_clock r.clock; granted = r.granted; held = (r.held + 1) % 2 ^ 64; passed = p }
 
+-- a cycle more, whose marks stay for the rest of the run; one that is refused is none
 unfoldable pub counted : Run → Result Cycle Refused → Run
 counted r (Ok x) = counted_by x.grant r (either_of r.passed x.passed)
 counted r (Err refused) = r

@@ -1,19 +1,21 @@
 // What a command does to the machine and to the time, and what it says. Commands that only show, and those on files, are not here.
-ghost use Rattle.std.specs.Prelude.{◌≡◌, []};
+// Image, bus and storage one by one: see lib.rt.
+ghost use Rattle.std.specs.Prelude.{◌≡◌, ℕ, []};
 ghost use Rattle.transfer.specs.Memory.{zeros};
 ghost use Rattle.text.specs.Shown.{◌⊕◌};
 ghost use Rattle.text.specs.Typed.{word_of};
-ghost use Rattle.reu.specs.Exports.{reu_new, reu_reset, reu_set_enabled, reu_trigger_ff00};
+ghost use Rattle.reu.specs.Exports.{reu_new};
 ghost use Rattle.console.specs.Apply.{apply_of, bus_hint, control_of, count_or, cycle_time, cycle_text, go_outcome, size_text, sized, step_outcome};
 ghost use Rattle.console.specs.Said.{said_of};
 ghost use Rattle.lines.specs.Clock.{time_of};
 ghost use Rattle.lines.specs.Keys.{command_of};
 ghost use Rattle.lines.specs.Memory.{stored};
-ghost use Rattle.console.specs.Registers.{after_read, read_text, warning_of, written};
+ghost use Rattle.console.specs.Registers.{warning_of, written};
 
 use crate::registers;
 use crate::step::{after, cycle_line, go, run_cycle, run_line};
-use lines::clock::Clock;
+use controller::Refusal;
+use lines::clock::{Clock, Inputs};
 use lines::commands::{command, size_typed};
 use lines::keys::Command;
 use lines::memory::{address_of, store};
@@ -21,9 +23,6 @@ use pane::answers::answer;
 use text::faults::value;
 use text::line::Line;
 use text::words::{word, word_count};
-
-// A size that is set where storage is attached is refused by this number.
-const ATTACHED: u8 = 6;
 
 // A swap of 65,536 bytes takes 131,072 cycles, and BA may hold it as long again.
 const LIMIT: u32 = 0x40000;
@@ -45,7 +44,7 @@ pub fn count_or(line: &[u8], other: u32) -> u32
     other
 }
 
-// Nothing is said, and no time passes.
+// A time, of which nothing is said.
 fn quiet(clock: Clock) -> Applied
     ensures clock_value { result.clock ≡ clock }
     ensures said_value { said_of result.said ≡ None }
@@ -60,82 +59,28 @@ fn bus_hint(line: &[u8]) -> Option<Line>
     ensures { said_of result ≡ bus_hint line.now }
 {
     if address_of(line) / 256 == 0xDF {
-        return Some(Line::new().text(b"(bytes of the bus; the registers are written by w)"));
+        return Some(Line::from(b"(bytes of the bus; the registers are written by w)"));
     }
     None
 }
 
-fn poke(line: &[u8], clock: Clock, bus: &mut [u8]) -> Applied
-    ensures clock_value { result.clock ≡ clock }
-    ensures said_value { said_of result.said ≡ bus_hint line.now }
+fn poke(line: &[u8], bus: &mut [u8]) -> Option<Line>
+    ensures said_value { said_of result ≡ bus_hint line.now }
     ensures bus_after { bus.new ≡ stored line.now bus.old }
 {
     store(line, bus);
-    Applied {
-        clock,
-        said: bus_hint(line),
-    }
-}
-
-fn poke_storage(line: &[u8], clock: Clock, storage: &mut [u8]) -> Applied
-    ensures clock_value { result.clock ≡ clock }
-    ensures said_value { said_of result.said ≡ None }
-    ensures storage_after { storage.new ≡ stored line.now storage.old }
-{
-    store(line, storage);
-    quiet(clock)
+    bus_hint(line)
 }
 
 // ---- the controller: w, rd, ff00, enable, disable, reset, size, new
 
-fn write(line: &[u8], clock: Clock, image: &mut [u8]) -> Applied
-    ensures clock_value { result.clock ≡ clock }
-    ensures said_value { said_of result.said ≡ warning_of image.old }
+fn write(line: &[u8], image: &mut [u8]) -> Option<Line>
+    ensures said_value { said_of result ≡ warning_of image.old }
     ensures image_after { image.new ≡ written line.now image.old }
 {
     let said = registers::warning(image);
     registers::write(line, image);
-    Applied { clock, said }
-}
-
-fn read(line: &[u8], clock: Clock, image: &mut [u8]) -> Applied
-    ensures clock_value { result.clock ≡ clock }
-    ensures said_value { said_of result.said ≡ Some (read_text line.now image.old) }
-    ensures image_after { image.new ≡ after_read line.now image.old }
-{
-    let said = registers::read(line, image);
-    Applied {
-        clock,
-        said: Some(said),
-    }
-}
-
-fn trigger(clock: Clock, image: &mut [u8]) -> Applied
-    ensures clock_value { result.clock ≡ clock }
-    ensures said_value { said_of result.said ≡ None }
-    ensures image_after { image.new ≡ (reu_trigger_ff00 image.old).1 }
-{
-    reu::reu_trigger_ff00(image);
-    quiet(clock)
-}
-
-fn switch(clock: Clock, image: &mut [u8], storage: &mut [u8], enabled: u32) -> Applied
-    ensures clock_value { result.clock ≡ clock }
-    ensures said_value { said_of result.said ≡ None }
-    ensures image_after { image.new ≡ (reu_set_enabled image.old storage.old enabled).1 }
-    ensures storage_after { storage.new ≡ (reu_set_enabled image.old storage.old enabled).2 }
-{
-    reu::reu_set_enabled(image, storage, enabled);
-    quiet(clock)
-}
-
-fn reset(clock: Clock, image: &mut [u8]) -> Applied
-    ensures clock_value { result.clock ≡ clock }
-    ensures said_value { said_of result.said ≡ None }
-    ensures image_after { image.new ≡ (reu_reset image.old 0).1 }
-{
-    reu::reu_reset(image, 0);
-    quiet(clock)
+    said
 }
 
 // What to say of a size, by what the call answered. Authors may not expect that a new machine is needed.
@@ -146,24 +91,21 @@ fn size_text(code: u32) -> Option<Line>
     let Err(refused) = answer(code) else {
         return None;
     };
-    let line = refused.shown(Line::new().text(b"the size is "));
-    if refused.number == ATTACHED {
+    let line = refused.shown(Line::from(b"the size is "));
+    // `refused` has a number alone: see pane.
+    if u32::from(refused.number) == u32::from(Refusal::Attached) {
         return Some(line.text(b": storage is attached (new makes a machine without)"));
     }
     Some(line)
 }
 
-fn set_size(line: &[u8], clock: Clock, image: &mut [u8]) -> Applied
-    ensures clock_value { result.clock ≡ clock }
-    ensures said_value { said_of result.said ≡ size_text (sized line.now image.old).0 }
+// A word that is no size is taken as 0, which the call refuses.
+fn set_size(line: &[u8], image: &mut [u8]) -> Option<Line>
+    ensures said_value { said_of result ≡ size_text (sized line.now image.old).0 }
     ensures image_after { image.new ≡ (sized line.now image.old).1 }
 {
     let size = size_typed(word(line, 1)).unwrap_or(0);
-    let code = reu::reu_set_size(image, size);
-    Applied {
-        clock,
-        said: size_text(code),
-    }
+    size_text(reu::reu_set_size(image, size))
 }
 
 fn renew(image: &mut [u8], bus: &mut [u8], storage: &mut [u8]) -> Applied
@@ -187,7 +129,7 @@ fn set_ba(line: &[u8], clock: Clock) -> Applied
 {
     quiet(Clock {
         cycle: clock.cycle,
-        ba: Line::new().text(word(line, 1)),
+        ba: Line::from(word(line, 1)),
         at: 0,
     })
 }
@@ -202,7 +144,7 @@ fn set_cycle(line: &[u8], clock: Clock) -> Applied
             ..clock
         });
     }
-    let said = Line::new().text(b"the next cycle is ").decimal(clock.cycle);
+    let said = Line::from(b"the next cycle is ").decimal(clock.cycle);
     Applied {
         clock,
         said: Some(said),
@@ -214,7 +156,8 @@ fn set_cycle(line: &[u8], clock: Clock) -> Applied
 pub fn step(clock: Clock, image: &mut [u8], bus: &mut [u8], storage: &mut [u8]) -> Applied
     ensures { (time_of result.clock, said_of result.said, image.new, bus.new, storage.new) ≡ step_outcome clock image.old bus.old storage.old }
 {
-    let done = run_cycle(clock.inputs(), clock.cycle, image, bus, storage);
+    let inputs = clock.inputs().unwrap_or(Inputs::NOTHING);
+    let done = run_cycle(inputs, clock.cycle, image, bus, storage);
     let said = cycle_line(&clock, done, bus, storage);
     Applied {
         clock: after(clock, done),
@@ -233,7 +176,7 @@ fn run_command(
     ensures { (time_of result.clock, said_of result.said, image.new, bus.new, storage.new) ≡ go_outcome line.now clock image.old bus.old storage.old }
 {
     if reu::reu_dma_active(image) == 0 {
-        let said = Line::new().text(b"no command runs (an armed one waits for ff00)");
+        let said = Line::from(b"no command runs (an armed one waits for ff00)");
         return Applied {
             clock,
             said: Some(said),
@@ -254,16 +197,23 @@ fn run_command(
 fn control(line: &[u8], clock: Clock, image: &mut [u8]) -> Applied
     ensures { (time_of result.clock, said_of result.said, image.new) ≡ control_of (command_of (word_of 0 line.now)) line.now clock image.old }
 {
-    match command(line) {
-        Some(Command::W) => write(line, clock, image),
-        Some(Command::Rd) => read(line, clock, image),
-        Some(Command::Ff00 | Command::Ff00Upper) => trigger(clock, image),
-        Some(Command::Reset) => reset(clock, image),
-        Some(Command::Ba) => set_ba(line, clock),
-        Some(Command::Cycle) => set_cycle(line, clock),
-        Some(Command::Size) => set_size(line, clock, image),
-        _ => quiet(clock),
-    }
+    let said = match command(line) {
+        Some(Command::W) => write(line, image),
+        Some(Command::Rd) => Some(registers::read(line, image)),
+        Some(Command::Ff00 | Command::Ff00Upper) => {
+            reu::reu_trigger_ff00(image);
+            None
+        }
+        Some(Command::Reset) => {
+            reu::reu_reset(image, 0);
+            None
+        }
+        Some(Command::Size) => set_size(line, image),
+        Some(Command::Ba) => return set_ba(line, clock),
+        Some(Command::Cycle) => return set_cycle(line, clock),
+        _ => None,
+    };
+    Applied { clock, said }
 }
 
 // The command that a line is.
@@ -277,13 +227,23 @@ pub fn apply(
 ) -> Applied
     ensures { (time_of result.clock, said_of result.said, image.new, bus.new, storage.new) ≡ apply_of (command_of (word_of 0 line.now)) line.now clock image.old bus.old storage.old }
 {
-    match command(line) {
-        Some(Command::Poke) => poke(line, clock, bus),
-        Some(Command::PokeStorage) => poke_storage(line, clock, storage),
-        Some(Command::Enable) => switch(clock, image, storage, 1),
-        Some(Command::Disable) => switch(clock, image, storage, 0),
-        Some(Command::New) => renew(image, bus, storage),
-        Some(Command::G) => run_command(line, clock, image, bus, storage),
-        _ => control(line, clock, image),
-    }
+    let said = match command(line) {
+        Some(Command::Poke) => poke(line, bus),
+        Some(Command::PokeStorage) => {
+            store(line, storage);
+            None
+        }
+        Some(Command::Enable) => {
+            reu::reu_set_enabled(image, storage, 1);
+            None
+        }
+        Some(Command::Disable) => {
+            reu::reu_set_enabled(image, storage, 0);
+            None
+        }
+        Some(Command::New) => return renew(image, bus, storage),
+        Some(Command::G) => return run_command(line, clock, image, bus, storage),
+        _ => return control(line, clock, image),
+    };
+    Applied { clock, said }
 }

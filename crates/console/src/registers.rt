@@ -1,24 +1,30 @@
-// Register writes and reads as the processor makes them.
-ghost use Rattle.std.specs.Prelude.{◌≡◌};
+// Register writes and reads as the processor makes them. A register's address is the low 16 bits: `as u16` is of a number that has no others.
+ghost use Rattle.std.specs.Prelude.{◌≡◌, ◌%◌};
+ghost use Rattle.reu.specs.Exports.{reu_write};
 ghost use Rattle.text.specs.Shown.{text_of};
 ghost use Rattle.console.specs.Registers.{after_read, read_text, warning_of, written};
 ghost use Rattle.console.specs.Said.{said_of};
 
-use lines::memory::{address_of, byte_of};
+use lines::memory::{Target, address_of, put_each};
 use pane::answers::answer;
 use text::line::Line;
-use text::words::{word, word_count};
+use text::words::word;
 
-// One byte after another to one register after another. The same loop as that which puts bytes into a memory: what is done with a byte is no
-// closure that it takes, since its calls would need a `requires`, which no public function has.
+// The registers, which bytes go to one after another.
+struct Registers;
+
+impl Target for Registers {
+    ghost after = { λ at value image. (reu_write image (at % 65536) value).1 };
+
+    fn put(image: &mut [u8], at: usize, value: u8) {
+        reu::reu_write(image, (at % 65536) as u16, value);
+    }
+}
+
 pub fn write(line: &[u8], image: &mut [u8])
     ensures { image.new ≡ written line.now image.old }
 {
-    let from = address_of(line) as usize;
-    for i in 2..word_count(line) {
-        let at = from + (i - 2);
-        reu::reu_write(image, (at % 65536) as u16, byte_of(line, i));
-    }
+    put_each::<Registers>(line, image);
 }
 
 // What a read gives, as a line, or that it was refused.

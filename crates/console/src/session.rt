@@ -1,6 +1,7 @@
 // A session: what is remembered from one turn to the next, and what a turn does. While cycles are still to be stepped a turn is
 // one cycle; otherwise it is one line. What only shows, and what has to do with files, is left to whoever has the terminal.
-ghost use Rattle.std.specs.Prelude.{◌≡◌, ◌-◌, false, []};
+// Image, bus and storage one by one: see lib.rt.
+ghost use Rattle.std.specs.Prelude.{◌≡◌, false, []};
 ghost use Rattle.text.specs.Faults.{Says};
 ghost use Rattle.lines.specs.Clock.{time_of};
 ghost use Rattle.console.specs.Said.{obeyed_of, said_of};
@@ -18,6 +19,7 @@ pub struct Session {
     pub clock: Clock,
     // How many cycles are still to be stepped before the next line is read.
     pub left: u32,
+    // Beside it: a turn leaves both, and neither says the other.
     pub ended: bool,
 }
 
@@ -55,12 +57,6 @@ impl Session {
 
 // ---- a turn is a cycle
 
-fn one_fewer(count: u32) -> u32
-    ensures { result ≡ count - 1 }
-{
-    count.saturating_sub(1)
-}
-
 fn cycle<'a>(session: Session, image: &mut [u8], bus: &mut [u8], storage: &mut [u8]) -> Turned<'a>
     ensures { (held_of result.session image.new bus.new storage.new, said_of result.said, obeyed_of result.obeyed) ≡ cycle_turn session image.old bus.old storage.old }
 {
@@ -68,7 +64,7 @@ fn cycle<'a>(session: Session, image: &mut [u8], bus: &mut [u8], storage: &mut [
     Turned {
         session: Session {
             clock: done.clock,
-            left: one_fewer(session.left),
+            left: session.left.saturating_sub(1),
             ended: session.ended,
         },
         said: done.said,

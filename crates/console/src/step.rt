@@ -1,12 +1,11 @@
-// Bus cycles: one by one, or until the command ends.
-ghost use Rattle.std.specs.Prelude.{◌≡◌, ℕ, if◌then◌else◌, List, Result, eqb};
-ghost use Rattle.transfer.specs.Bytes.{bit_of};
-ghost use Rattle.transfer.specs.Constants.{bus_size};
+// Bus cycles: one by one, or until the command ends. An offset is cast where it indexes: `usize` has no `From` of `u32`, and nothing is lost.
+// Image, bus and storage one by one: see lib.rt.
+ghost use Rattle.std.specs.Prelude.{◌≡◌, ℕ, List, Result};
 ghost use Rattle.text.specs.Shown.{◌⊕◌, text_of};
 ghost use Rattle.lines.specs.Clock.{time_of};
 ghost use Rattle.pane.specs.declared.answers.Refused.{Refused};
 ghost use Rattle.console.specs.declared.step.Cycle.{Cycle};
-ghost use Rattle.console.specs.Step.{access_in, access_ready, access_text, action_in, advanced, asked_of, ba_text, bytes_at, bytes_by, counted, cycle_line, cycle_of, done_text, either_of, go_of, grant_text, mark_if, marks_of, not_asked, passed_text, run_line, run_text, started, time_after};
+ghost use Rattle.console.specs.Step.{access_ready, access_text, action_in, advanced, asked_of, ba_text, bytes_at, bytes_by, counted, cycle_line, cycle_of, done_text, go_of, grant_text, mark_if, passed_text, run_line, run_text, started, time_after};
 
 use lines::clock::{Clock, Inputs};
 use pane::answers::{Refused, answer};
@@ -16,9 +15,6 @@ use text::line::Line;
 use transfer::{C64Address, Passed, ReuBusAction, ReuC64Access};
 
 const BUS_SIZE: usize = 65536;
-
-// What stands for a grant that nobody asked for.
-const NOT_ASKED: Refused = Refused { number: 0 };
 
 // What a cycle was granted, the access to the bus that the controller had ready, the offset in the storage, and which address ran over
 // its top.
@@ -32,71 +28,29 @@ pub struct Cycle {
 
 // ---- numbers of the calls
 
-// An input.
-fn flag(input: bool) -> u32
-    ensures { result ≡ bit_of input }
-{
-    u32::from(input)
-}
-
+// A grant: no call answers another number.
 fn action_in(value: u32) -> ReuBusAction
     ensures { result ≡ action_in value }
 {
-    match value {
-        0 => ReuBusAction::Cpu,
-        1 => ReuBusAction::Hold,
-        _ => ReuBusAction::Transfer,
-    }
-}
-
-// 65,536 times the kind, and the address.
-#[tactic(auto, unfolding(crate::specs::Step::access_in))]
-fn access_in(value: u32) -> ReuC64Access
-    ensures { result ≡ access_in value }
-{
-    let address = C64Address((value % 65536) as u16);
-    match value / 65536 {
-        0 => ReuC64Access::None,
-        1 => ReuC64Access::Read(address),
-        _ => ReuC64Access::Write(address),
-    }
-}
-
-// The two marks in a cycle's answer: its value has 2 and 4 more for them.
-fn marks(value: u32) -> Passed
-    ensures { result ≡ marks_of value }
-{
-    Passed {
-        c64: value & 2 != 0,
-        expansion: value & 4 != 0,
-    }
+    ReuBusAction::try_from(value).unwrap_or(ReuBusAction::Transfer)
 }
 
 // The access that is then ready. Where it is refused there is none.
 fn access_ready(image: &[u8]) -> ReuC64Access
     ensures { result ≡ access_ready image.now }
 {
-    access_in(answer(reu::reu_c64_access(image)).unwrap_or(0))
+    let value = answer(reu::reu_c64_access(image)).unwrap_or(0);
+    ReuC64Access::try_from(value).unwrap_or(ReuC64Access::None)
 }
 
 // The grant of the cycle that comes next, asked of a copy of the image; what passes a top only the cycle itself answers. What the
-// asking may write, the byte of a swap that is given up, the cycle writes again itself; a cycle that is `lent` a bus of another
-// length is refused and writes nothing, so nothing is asked.
-fn ask(
-    inputs: Inputs,
-    number: u64,
-    image: &[u8],
-    lent: usize,
-    storage: &mut [u8],
-) -> Result<Cycle, Refused>
-    ensures { ◌≡◌ {A = Result Cycle Refused × List ℕ} (result, storage.new) (if eqb lent bus_size then asked_of inputs number image.now storage.old else (not_asked, storage.old)) }
+// asking may write, the byte of a swap that is given up, the cycle writes again itself.
+fn ask(inputs: Inputs, number: u64, image: &[u8], storage: &mut [u8]) -> Result<Cycle, Refused>
+    ensures { ◌≡◌ {A = Result Cycle Refused × List ℕ} (result, storage.new) (asked_of inputs number image.now storage.old) }
 {
-    if lent != BUS_SIZE {
-        return Err(NOT_ASKED);
-    }
     let mut copy = copied(image);
-    let high = flag(inputs.ba_high);
-    let phi1 = flag(inputs.ba_high_phi1);
+    let high = u32::from(inputs.ba_high);
+    let phi1 = u32::from(inputs.ba_high_phi1);
     let grant = answer(reu::reu_bus_action(&mut copy, storage, high, phi1, number))?;
     Ok(Cycle {
         grant: action_in(grant),
@@ -106,7 +60,7 @@ fn ask(
     })
 }
 
-// One bus cycle.
+// One bus cycle. One that is lent a bus of another length is refused and writes nothing, so nothing is asked before it.
 pub fn run_cycle(
     inputs: Inputs,
     number: u64,
@@ -116,20 +70,26 @@ pub fn run_cycle(
 ) -> Result<Cycle, Refused>
     ensures { (result, image.new, bus.new, storage.new) ≡ cycle_of inputs number image.old bus.old storage.old }
 {
-    let asked = ask(inputs, number, image, bus.len(), storage);
-    let high = flag(inputs.ba_high);
-    let phi1 = flag(inputs.ba_high_phi1);
-    let low = flag(inputs.ba_low);
+    let asked = if bus.len() == BUS_SIZE {
+        Some(ask(inputs, number, image, storage))
+    } else {
+        None
+    };
+    let high = u32::from(inputs.ba_high);
+    let phi1 = u32::from(inputs.ba_high_phi1);
+    let low = u32::from(inputs.ba_low);
     let value = answer(reu::reu_run_reu_cycle(image, bus, storage, high, number, low, phi1))?;
-    let cycle = asked?;
+    // What was not refused had a bus of that length.
+    let Some(asked) = asked else { unreachable!() };
     Ok(Cycle {
-        passed: marks(value),
-        ..cycle
+        passed: Passed::from(value),
+        ..asked?
     })
 }
 
 // ---- one cycle, shown
 
+// BA as the letter says it that was typed, which `lines` turns into the inputs.
 #[tactic(auto, unfolding(crate::specs::Step::ba_text))]
 fn ba_text(line: Line, letter: u8) -> Line
     ensures { text_of result ≡ ba_text (text_of line) letter }
@@ -253,15 +213,6 @@ pub struct Run {
     pub passed: Passed,
 }
 
-fn either(one: Passed, other: Passed) -> Passed
-    ensures { result ≡ either_of one other }
-{
-    Passed {
-        c64: one.c64 | other.c64,
-        expansion: one.expansion | other.expansion,
-    }
-}
-
 // A cycle more, unless it was refused.
 #[tactic(auto, unfolding(crate::specs::Step::counted))]
 fn count(run: Run, done: Result<Cycle, Refused>) -> Run
@@ -270,20 +221,19 @@ fn count(run: Run, done: Result<Cycle, Refused>) -> Run
     let Ok(cycle) = done else {
         return run;
     };
-    let clock = run.clock.next();
-    let passed = either(run.passed, cycle.passed);
+    let run = Run {
+        clock: run.clock.next(),
+        passed: run.passed | cycle.passed,
+        ..run
+    };
     match cycle.grant {
         ReuBusAction::Transfer => Run {
-            clock,
             granted: run.granted.wrapping_add(1),
-            held: run.held,
-            passed,
+            ..run
         },
         ReuBusAction::Cpu | ReuBusAction::Hold => Run {
-            clock,
-            granted: run.granted,
             held: run.held.wrapping_add(1),
-            passed,
+            ..run
         },
     }
 }
@@ -296,7 +246,7 @@ fn advance(run: Run, image: &mut [u8], bus: &mut [u8], storage: &mut [u8]) -> Ru
     if reu::reu_dma_active(image) != 1 {
         return run;
     }
-    let inputs = run.clock.inputs();
+    let inputs = run.clock.inputs().unwrap_or(Inputs::NOTHING);
     let done = run_cycle(inputs, run.clock.cycle, image, bus, storage);
     count(run, done)
 }

@@ -33,7 +33,7 @@ refusal_number Attached = 6
 
 -- ---- what the code hands back, in these terms: "A refusal has value 0 and changes no controller"
 
-abbrev pub number_of : Result (Unit {0}) Refusal → ℕ
+abbrev pub number_of : {A : Type 0} → Result A Refusal → ℕ
 number_of (Ok x) = 0
 number_of (Err e) = refusal_number e
 

@@ -5,7 +5,7 @@
 // finish_dma, bus_action, tick_dma. cycle is run_reu_cycle, from the original's src/memory/memory.rs, and the step over a lent controller.
 //
 // Bus and storage stay two arguments, as the C interface lends them: with a struct of two slices each contract would have one clause more, that it
-// still lends the same two.
+// still lends the same two. So do BA's inputs and the cycle: they come one by one from the C interface, as from the original's callers.
 #![tactic(auto)]
 
 mod bus_action;

@@ -1,5 +1,5 @@
 // Why a call is refused, and the tests of what it is handed: the controller, the lengths of a bus and a storage, and a size.
-ghost use Rattle.std.specs.Prelude.{◌≡◌, ◌<◌, ◌^◌, OnOk};
+ghost use Rattle.std.specs.Prelude.{◌≡◌, IfOk};
 ghost use Rattle.controller.specs.Answers.{number_of, refusal_number};
 ghost use Rattle.controller.specs.Refusals.{refusal_of, size_refusal, well_formed, well_size};
 
@@ -65,27 +65,29 @@ impl Reu {
         if bus != BUS_BYTES {
             return Err(Refusal::Bus);
         }
+        // `as usize` widens, here and where a size is compared with a length: std has no `From<u32>` for it.
         if storage != self.size as usize {
             return Err(Refusal::Storage);
         }
         Ok(())
     }
 
-    // The tests of setting a size. All 64 bits count.
+    // The tests of setting a size, and the size. All 64 bits count.
     #[tactic(auto, unfolding(crate::specs::Refusals::size_refusal), using(transfer::proofs::Sizes::size_small))]
-    pub(crate) fn test_size(self, size: u64) -> Result<(), Refusal>
-        ensures value { number_of result ≡ size_refusal self size }
-        ensures fits { OnOk result (size < 2 ^ 32) }
+    pub(crate) fn test_size(self, size: u64) -> Result<u32, Refusal>
+        ensures number { number_of result ≡ size_refusal self size }
+        ensures value { IfOk result (λ tested. tested ≡ size) }
     {
         if !self.well_formed() {
             return Err(Refusal::Field);
         }
-        if !is_size(size) {
-            return Err(Refusal::Size);
-        }
+        let tested = match u32::try_from(size) {
+            Ok(tested) if is_size(size) => tested,
+            _ => return Err(Refusal::Size),
+        };
         if self.attached {
             return Err(Refusal::Attached);
         }
-        Ok(())
+        Ok(tested)
     }
 }

@@ -71,8 +71,9 @@ impl Reu {
     fn write_reu(mut self, shadow: u32) -> Reu
         ensures { result ≡ write_exp self shadow }
     {
+        let [low, high, _, _] = shadow.to_le_bytes();
         self.shadow_reu_addr = shadow;
-        self.with_pair(REU_ADDRESS_LOW, (shadow & 0xFFFF) as u16)
+        self.with_pair(REU_ADDRESS_LOW, u16::from_le_bytes([low, high]))
     }
 
     fn write_bank(mut self, bank: u8) -> Reu
@@ -105,6 +106,8 @@ impl Reu {
         self
     }
 
+    // By the register's number, as its address has it. `as u16` drops nothing: what becomes of a shadow of 16 bits has
+    // 16. By its two bytes there would be a second way beside the one that an expansion address takes.
     #[tactic(auto, unfolding(crate::specs::Registers::write_register))]
     pub(crate) fn write_register(self, addr: u16, value: u8) -> Reu
         ensures { result ≡ write_register self addr value }

@@ -46,13 +46,15 @@ pub struct Answered<T> {
 }
 
 // What a tick and a cycle give: whether the command goes on or, of a cycle, whether the processor is held, and which address ran over its top.
+// The flag says nothing of the marks, so it is no Option's.
 #[derive(Clone, Copy, Debug, PartialEq, Eq)]
 pub struct Step {
     pub flag: bool,
     pub passed: Passed,
 }
 
-// A grant, the controller after it, and what is written.
+// A grant, the controller after it, and what is written. It and a tick's answer are two records: as one with a type parameter, what a tick says
+// would stand one record deeper in each of its definitions.
 #[derive(Clone, Copy, Debug, PartialEq, Eq)]
 pub struct BusAnswer {
     pub action: ReuBusAction,
@@ -211,6 +213,7 @@ impl Reu {
     fn tested(self, value: u32, after: Reu) -> Result<Answered<u32>, Refusal>
         ensures { answer_of self result ≡ call self (answered value after) }
     {
+        // `as usize` widens, as in `test`.
         self.test(BUS_BYTES, self.size as usize)?;
         Ok(after.answered(value))
     }
@@ -228,8 +231,8 @@ impl Reu {
     pub fn set_size(self, size: u64) -> Result<Answered<u32>, Refusal>
         ensures { answer_of self result ≡ set_size_call self size }
     {
-        self.test_size(size)?;
-        Ok(self.sized(size as u32).answered(0))
+        let tested = self.test_size(size)?;
+        Ok(self.sized(tested).answered(0))
     }
 
     #[tactic(auto, unfolding(crate::specs::Calls::storage_present_call))]

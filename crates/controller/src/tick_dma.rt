@@ -1,4 +1,7 @@
 // One granted cycle of a transfer. A tick sees the two bytes at the transfer's place, and says what it writes.
+//
+// The transfer, its bytes, the cycle and BA stay parameters of their own: each function is handed what it looks at, so that a store is seen to ask
+// for no cycle, and a read half for no BA.
 ghost use Rattle.std.specs.Prelude.{◌≡◌};
 ghost use Rattle.controller.specs.Answers.{step_of};
 ghost use Rattle.controller.specs.TickDma.{advance, swap_read, swap_write, tick_by_type, tick_dma, tick_of, tick_recall, tick_refresh, tick_running, tick_store, tick_swap, tick_tail, tick_verify, quiet_tick, with_error};
@@ -90,17 +93,10 @@ impl Reu {
     }
 
     #[tactic(auto, unfolding(crate::specs::TickDma::tick_swap))]
-    fn tick_swap(
-        self,
-        phase: SwapPhase,
-        d: DmaState,
-        seen: Seen,
-        cycle: u64,
-        ba_low: bool,
-    ) -> TickAnswer
-        ensures { result ≡ tick_swap phase self d seen cycle ba_low }
+    fn tick_swap(self, d: DmaState, seen: Seen, cycle: u64, ba_low: bool) -> TickAnswer
+        ensures { result ≡ tick_swap d.swap_phase self d seen cycle ba_low }
     {
-        match phase {
+        match d.swap_phase {
             SwapPhase::ReadC64 => self.swap_read(d, seen, cycle),
             SwapPhase::WriteC64 => self.swap_write(d, ba_low),
         }
@@ -147,20 +143,13 @@ impl Reu {
     }
 
     #[tactic(auto, unfolding(crate::specs::TickDma::tick_by_type))]
-    fn tick_by_type(
-        self,
-        kind: TransferType,
-        d: DmaState,
-        seen: Seen,
-        cycle: u64,
-        ba_low: bool,
-    ) -> TickAnswer
-        ensures { result ≡ tick_by_type kind self d seen cycle ba_low }
+    fn tick_by_type(self, d: DmaState, seen: Seen, cycle: u64, ba_low: bool) -> TickAnswer
+        ensures { result ≡ tick_by_type d.transfer_type self d seen cycle ba_low }
     {
-        match kind {
+        match d.transfer_type {
             TransferType::Store => self.tick_store(d, seen, ba_low),
             TransferType::Recall => self.tick_recall(d, seen, ba_low),
-            TransferType::Swap => self.tick_swap(d.swap_phase, d, seen, cycle, ba_low),
+            TransferType::Swap => self.tick_swap(d, seen, cycle, ba_low),
             TransferType::Verify => self.tick_verify(d, seen, ba_low),
         }
     }
@@ -175,7 +164,7 @@ impl Reu {
         if d.verify_tail {
             return self.tick_tail(d, seen);
         }
-        self.tick_by_type(d.transfer_type, d, seen, cycle, ba_low)
+        self.tick_by_type(d, seen, cycle, ba_low)
     }
 
     // A command needs storage: without it it is dropped.

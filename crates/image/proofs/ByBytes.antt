@@ -2,22 +2,22 @@
 use mathlib.Core.Path.{◌≡◌, refl, sym, ap, ◌∙◌}
 use mathlib.Core.Bool.{Bool, true, false, cond, not, ◌&&◌, ◌||◌}
 use mathlib.Core.List.{List, ◌++◌}
-use Prim.Native.Nat.{ℕ, suc, ◌-◌, ◌<◌}
+use Prim.Native.Nat.{ℕ, zero, suc, ◌+◌, ◌-◌, ◌*◌, ◌<◌}
 use native.Mathlib.Omega.{arith}
 use lib.ListN.{length, get_or, take, drop}
 use lib.Seq.{sets}
+use lib.Dec.{eqb}
+use Rattle.std.specs.List.{list_all}
 use borrow.Author.Tests.{eq-eqb, ne_eqb}
 use Rattle.transfer.specs.Constants.{register_count}
 use Rattle.controller.specs.declared.reu.Reu.{Reu}
-use Rattle.std.specs.Prelude.{Option}
-use Rattle.std.specs.Prelude.{None, Some}
+use Rattle.std.specs.Prelude.{Option, None, Some}
 use Rattle.image.specs.Radix.{parted, below}
 use Rattle.image.specs.Fields.{radices, values, laid, lifted}
 use Rattle.image.specs.Layout.{fields, image_size, at, shadow_c64, shadow_exp, shadow_length, flags, more_flags, delay, transfer, kind, granted_field, place_of, flags_of, flag_bits, more_number, present, transfer_fields, transfer_numbers, other_with, pack_image, transfer_of, dma_in}
-use Rattle.image.specs.Inner.{transfer_part}
+use Rattle.image.specs.Inner.{transfer_part, gets}
 use Rattle.image.specs.Open.{all_zero, bytes_ok}
 use Rattle.image.proofs.Fields.{needed, needed_are, all_true, lifted_below}
-use Rattle.image.specs.Inner.{gets}
 use Rattle.image.proofs.Gets.{gets_slice, gets_all}
 use Rattle.transfer.specs.declared.dma.DmaState.{DmaState}
 
@@ -25,6 +25,9 @@ module _ (s : List ℕ) (long : length s ≡ image_size) where
   -- the same bytes, written out
   pub listed : gets 0 image_size s ≡ s
   listed = gets_all s image_size long
+
+  pub transfer_listed : transfer_of (lifted fields (gets 0 image_size s)) ≡ transfer_of (lifted fields s)
+  transfer_listed = ap (λ (l : List ℕ). transfer_of (lifted fields l)) listed
 
   pub transfer_byte_lem : at (lifted fields s) transfer ≡ at s (place_of transfer)
   transfer_byte_lem = ap (λ (l : List ℕ). at (lifted fields l) transfer) (sym listed)
@@ -63,6 +66,26 @@ module _ (s : List ℕ) (long : length s ≡ image_size) where
       and_true true = refl
       and_true false = refl
 
+-- ---- without a transfer: bytes that are all 0 say fields that are
+
+two_zero : (a b : ℕ) (r : Bool) → eqb a 0 && (eqb b 0 && r) ≡ eqb (a + 256 * b) 0 && r
+two_zero zero zero r = refl
+two_zero zero (suc b) r = ap (λ (t : Bool). t && r) (ne_eqb (suc b) 0 (λ e. omega arith) ∙ sym (ne_eqb (0 + 256 * suc b) 0 (λ e. omega arith)))
+two_zero (suc a) b r =
+    ap (λ (t : Bool). t && (eqb b 0 && r)) (ne_eqb (suc a) 0 (λ e. omega arith))
+    ∙ ap (λ (t : Bool). t && r) (sym (ne_eqb (suc a + 256 * b) 0 (λ e. omega arith)))
+
+three_zero : (a b c : ℕ) (r : Bool) → eqb a 0 && (eqb b 0 && (eqb c 0 && r)) ≡ eqb (a + 256 * (b + 256 * c)) 0 && r
+three_zero a b c r = ap (λ (t : Bool). eqb a 0 && t) (two_zero b c r) ∙ two_zero a (b + 256 * c) r
+
+pub idle_bytes : (s : List ℕ) → list_all (λ b. eqb b 0) (gets 22 11 s) ≡ all_zero (take transfer_fields (drop kind (lifted fields (gets 0 image_size s))))
+idle_bytes s =
+    ap (λ (t : Bool). eqb (at s 22) 0 && (eqb (at s 23) 0 && t))
+    (two_zero (at s 24) (at s 25) _
+    ∙ ap (λ (t : Bool). eqb (at s 24 + 256 * at s 25) 0 && t)
+    (three_zero (at s 26) (at s 27) (at s 28) _
+    ∙ ap (λ (t : Bool). eqb (at s 26 + 256 * (at s 27 + 256 * at s 28)) 0 && t) (two_zero (at s 29) (at s 30) _)))
+
 -- ---- packing: what the stores of the fields leave of a list of the image's length
 
 -- a number in the bytes of field k
@@ -72,7 +95,7 @@ stored k l n = sets l (place_of k) (parted (radices (place_of (suc k) - place_of
 module _ (r : Reu) where
   abbrev laid_over : Option DmaState → List ℕ → List ℕ → List ℕ
   laid_over m regs out =
-      let l1 : List ℕ = stored shadow_c64 (take (length regs) regs ++ drop (length regs) out) r.shadow_c64_addr in
+      let l1 : List ℕ = stored shadow_c64 (sets out 0 regs) r.shadow_c64_addr in
       let l2 : List ℕ = stored shadow_length (stored shadow_exp l1 r.shadow_reu_addr) r.shadow_len in
       let l3 : List ℕ = stored more_flags (stored flags l2 (flags_of (flag_bits r))) (more_number r) in
       let l4 : List ℕ = stored transfer (stored delay l3 r.swap_read_delay) (present m) in

@@ -10,9 +10,8 @@ use borrow.Author.Tests.{eq-eqb, ne_eqb, eqb-true}
 use Rattle.controller.specs.declared.reu.Reu.{Reu}
 use Rattle.controller.specs.Enable.{new_reu}
 use Rattle.controller.specs.Refusals.{well_formed, checked}
-use Rattle.image.specs.Open.{Opened}
+use Rattle.image.specs.Open.{Opened, image_ok, open_image, store_image}
 use Rattle.image.specs.Layout.{image_size, pack_image, reu_at}
-use Rattle.image.specs.Open.{image_ok, open_image, store_image}
 
 module _ (s : List ℕ) where
   -- the answer by the two tests

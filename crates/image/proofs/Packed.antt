@@ -8,8 +8,7 @@ use lib.ListN.{length, get_or, take, drop, replicate}
 use lib.Dec.{eqb}
 use Rattle.controller.specs.declared.reu.Reu.{Reu}
 use Rattle.transfer.specs.declared.dma.DmaState.{DmaState}
-use Rattle.std.specs.Prelude.{Option}
-use Rattle.std.specs.Prelude.{None, Some}
+use Rattle.std.specs.Prelude.{Option, None, Some}
 use Rattle.transfer.specs.declared.dma.TransferType.{TransferType}
 use Rattle.transfer.specs.declared.dma.TransferType.TheVariants.{Store, Recall, Swap, Verify}
 use Rattle.transfer.specs.declared.dma.SwapPhase.{SwapPhase}

@@ -13,8 +13,7 @@ use Rattle.controller.specs.declared.reu.Answered.{Answered}
 use Rattle.controller.specs.declared.reu.BusAnswer.{BusAnswer}
 use Rattle.controller.specs.declared.reu.TickAnswer.{TickAnswer}
 use Rattle.transfer.specs.declared.dma.DmaState.{DmaState}
-use Rattle.std.specs.Prelude.{Option}
-use Rattle.std.specs.Prelude.{None, Some}
+use Rattle.std.specs.Prelude.{Option, None, Some}
 use Rattle.transfer.specs.declared.dma.TransferType.{TransferType}
 use Rattle.transfer.specs.declared.dma.TransferType.TheVariants.{Store, Recall, Swap, Verify}
 use Rattle.transfer.specs.declared.dma.SwapPhase.{SwapPhase}
@@ -29,21 +28,18 @@ use Rattle.transfer.specs.declared.timing.ReuBusAction.TheVariants.{Cpu, Hold, T
 use Rattle.transfer.specs.Constants.{new_size}
 use Rattle.transfer.specs.Bytes.{bit, word}
 use Rattle.controller.specs.Reu.{reg, set_reg, with_regs, with_armed, with_dma, with_history, with_repeat, with_release}
-use Rattle.transfer.specs.Dma.{with_latch}
+use Rattle.transfer.specs.Dma.{with_latch, is_type, length_of, moved, recalled, is_first_byte, is_last_byte, seen_by}
 use Rattle.controller.specs.Registers.{read_register, write_register, write_command}
 use Rattle.transfer.specs.Memory.{is_size, next_c64, next_exp, put_bus, put_storage, zeros}
 use Rattle.controller.specs.Timing.{c64_access}
-use Rattle.transfer.specs.Timing.{reads, writes}
-use Rattle.transfer.specs.Dma.{is_type, length_of, moved, recalled, is_first_byte, is_last_byte}
+use Rattle.transfer.specs.Timing.{reads, writes, read_again, restored, resumes, swap_reads, swap_writes}
 use Rattle.regs.specs.StartDma.{requested}
 use Rattle.controller.specs.StartDma.{start_dma, trigger_ff00}
 use Rattle.regs.specs.FinishDma.{irq_due, finished_command, autoloaded, finished}
 use Rattle.controller.specs.FinishDma.{update_irq, publish_live_counters, finish_dma}
 use Rattle.controller.specs.Enable.{fresh, new_reu, set_size, set_enabled}
 use Rattle.controller.specs.BusAction.{repeated, plain, fall_on_read, fall_on_swap_write, fall_on_write, fall, decide, resumed, next_action, bus_action}
-use Rattle.transfer.specs.Timing.{read_again, restored, resumes, swap_reads, swap_writes}
 use Rattle.controller.specs.TickDma.{advance, tick_store, tick_recall, swap_read, swap_write, tick_swap, differs, with_error, tick_verify, tick_by_type, tick_refresh, tick_tail, tick_running, tick_of, tick_dma}
-use Rattle.transfer.specs.Dma.{seen_by}
 use Rattle.controller.specs.Cycle.{counted, most_granted, cycle_by, run_reu_cycle}
 use Rattle.transfer.proofs.Pick.{by_test, fst, snd}
 use Rattle.transfer.proofs.Sizes.{size_512}

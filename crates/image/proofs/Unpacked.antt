@@ -8,16 +8,14 @@ use lib.ListN.{length, get_or, take, drop, replicate, take-append-drop}
 use lib.Seq.{length-take-le}
 use lib.Dec.{eqb}
 use borrow.Author.Tests.{eqb-true, eqb-false}
-use Rattle.std.specs.Prelude.{Option}
-use Rattle.std.specs.Prelude.{None, Some}
+use Rattle.std.specs.Prelude.{Option, None, Some}
 use Rattle.transfer.specs.Dma.{type_number, type_of}
 use Rattle.controller.specs.Refusals.{well_formed}
-use Rattle.image.specs.Open.{Opened}
+use Rattle.image.specs.Open.{Opened, all_zero, idle_ok, bytes_ok, image_ok, open_image}
 use Rattle.image.specs.Radix.{below}
 use Rattle.image.specs.Fields.{radices, values, laid, lifted}
 use Rattle.transfer.specs.Constants.{register_count}
 use Rattle.image.specs.Layout.{fields, image_size, at, shadow_c64, shadow_exp, shadow_length, flags, more_flags, delay, transfer, kind, phase, transfer_c64, transfer_exp, remaining, latch, options, granted_field, transfer_fields, phase_number, phase_of, present, transfer_numbers, numbers_of, pack_image, transfer_of, dma_in, controller_of, reu_at}
-use Rattle.image.specs.Open.{all_zero, idle_ok, bytes_ok, image_ok, open_image}
 use Rattle.image.specs.Valid.{Bytes, Typed, DmaTyped}
 use Rattle.image.proofs.Radix.{Below}
 use Rattle.image.proofs.Fields.{and_left, and_right, below_test, below_at, below_front, byte_of, lifted_long, laid_lifted}

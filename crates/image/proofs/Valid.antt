@@ -9,11 +9,9 @@ use borrow.Author.Tests.{lt-ltb, ltb-true, le-leb, leb-true}
 use Rattle.controller.specs.declared.reu.Reu.{Reu}
 use Rattle.transfer.specs.declared.dma.DmaState.{DmaState}
 use Rattle.transfer.specs.declared.dma.TransferType.TheVariants.{Swap, Verify}
-use Rattle.std.specs.Prelude.{Option}
-use Rattle.std.specs.Prelude.{None, Some}
-use Rattle.transfer.specs.Dma.{is_type, is_write_phase}
+use Rattle.std.specs.Prelude.{Option, None, Some}
+use Rattle.transfer.specs.Dma.{is_type, is_write_phase, well_transfer, well_dma}
 use Rattle.controller.specs.Refusals.{well_formed}
-use Rattle.transfer.specs.Dma.{well_transfer, well_dma}
 use Rattle.transfer.specs.Constants.{version}
 use Rattle.transfer.specs.Bytes.{bit}
 use Rattle.transfer.specs.Memory.{is_size, chip_mark}

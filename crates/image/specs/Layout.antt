@@ -3,10 +3,8 @@ use Rattle.controller.specs.Prelude.{ℕ, Bool, cond, List, [], eqb, get_or, len
 use Rattle.transfer.specs.declared.dma.SwapPhase.{SwapPhase}
 use Rattle.transfer.specs.declared.dma.SwapPhase.TheVariants.{ReadC64, WriteC64}
 use Rattle.transfer.specs.declared.dma.DmaState.{DmaState}
-use Rattle.std.specs.Prelude.{Option}
-use Rattle.std.specs.Prelude.{None, Some}
+use Rattle.std.specs.Prelude.{Option, None, Some, ◌++◌, map, take, ◌+◌, ◌-◌, ◌*◌, ◌/◌, ◌%◌, ◌^◌, ◌∷◌}
 use Rattle.controller.specs.declared.reu.Reu.{Reu}
-use Rattle.std.specs.Prelude.{◌++◌, map, take, ◌+◌, ◌-◌, ◌*◌, ◌/◌, ◌%◌, ◌^◌, ◌∷◌}
 use Rattle.transfer.specs.Constants.{register_count, bus_size, expansion_limit, full_length}
 use Rattle.transfer.specs.Bytes.{bit, bit_of}
 use Rattle.transfer.specs.Dma.{type_number, type_of, length_of}

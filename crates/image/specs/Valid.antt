@@ -1,8 +1,6 @@
 -- What the types of a controller's fields say, and that a list is bytes.
-use Rattle.std.specs.Prelude.{◌^◌, ◌<◌, ◌≡◌}
+use Rattle.std.specs.Prelude.{◌^◌, ◌<◌, ◌≡◌, Option, None, Some}
 use Rattle.controller.specs.Prelude.{ℕ, List, get_or, length}
-use Rattle.std.specs.Prelude.{Option}
-use Rattle.std.specs.Prelude.{None, Some}
 use Rattle.controller.specs.declared.reu.Reu.{Reu}
 use Rattle.transfer.specs.Constants.{register_count}
 use Rattle.transfer.specs.declared.dma.DmaState.{DmaState}

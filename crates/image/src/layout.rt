@@ -1,4 +1,5 @@
-// Where each field of an image starts: the one before plus its width. The low byte of a number comes first.
+// Where each field of an image starts: the one before plus its width. The low byte of a number comes first. The numbers are those
+// of the saved image, and index it, so they are no enum's.
 pub const REGISTERS: usize = 0;
 
 pub const SHADOW_C64: usize = REGISTERS + 11;

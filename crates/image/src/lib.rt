@@ -28,16 +28,14 @@ pub fn open(image: &[u8]) -> Result<Reu, Refusal>
 }
 
 // Lays the image of a controller over a slice of an image's length. Refuses a slice of another length, and a controller that
-// opening would refuse: then the slice stays as it is.
+// opening would refuse: then the slice stays as it is. What elements it ends with is told of `as_mut_array`, and not of `try_into`.
 #[tactic(auto, unfolding(crate::specs::Open::store_image, controller::specs::Refusals::checked))]
 pub fn store(out: &mut [u8], reu: Reu) -> Result<(), Refusal>
     ensures { (number_of result, out.new) ≡ store_image reu out.old }
 {
-    if out.len() != IMAGE_BYTES {
-        return Err(Refusal::Length);
-    }
+    let fields = out.as_mut_array::<IMAGE_BYTES>().ok_or(Refusal::Length)?;
     if reu.well_formed() {
-        pack::pack(out, reu);
+        pack::pack(fields, reu);
         Ok(())
     } else {
         Err(Refusal::Field)

@@ -1,38 +1,55 @@
 // A controller laid down in an image, field by field.
-ghost use Rattle.std.specs.Prelude.{true, ◌≡◌, ◌+◌, ◌-◌, ◌<◌, ◌≤◌, length};
+ghost use Rattle.std.specs.Prelude.{true, ◌≡◌, ◌+◌, ◌<◌, ◌≤◌};
 ghost use Rattle.std.proofs.lemmas.List.Edits.{sets};
 ghost use Rattle.controller.specs.Refusals.{well_formed};
-ghost use Rattle.image.specs.Radix.{parted, product};
+ghost use Rattle.transfer.specs.Constants.{expansion_limit};
+ghost use Rattle.image.specs.Radix.{parted};
 ghost use Rattle.controller.specs.Inner.{InRangeDma};
 ghost use Rattle.image.specs.Fields.{laid, radices};
-ghost use Rattle.image.specs.Layout.{flag_bits, flags_of, image_size, kind, more_number, option_bits, pack_image, place_of, size_code, transfer_numbers};
+ghost use Rattle.image.specs.Layout.{flag_bits, flags_of, image_size, kind, more_number, option_bits, pack_image, place_of, remaining_number, size_code, transfer_numbers};
 ghost use Rattle.image.specs.Inner.{Room, transfer_part};
 
 use crate::layout::{
-    DELAY, FLAGS, GRANTED_CYCLES, IMAGE_BYTES, LATCH, MORE_FLAGS, OPTIONS, PHASE, REMAINING,
-    SHADOW_C64, SHADOW_EXPANSION, SHADOW_LENGTH, TRANSFER, TRANSFER_C64, TRANSFER_EXPANSION, TYPE,
+    DELAY, FLAGS, GRANTED_CYCLES, IMAGE_BYTES, LATCH, MORE_FLAGS, OPTIONS, PHASE, REGISTERS,
+    REMAINING, SHADOW_C64, SHADOW_EXPANSION, SHADOW_LENGTH, TRANSFER, TRANSFER_C64,
+    TRANSFER_EXPANSION, TYPE,
 };
 use controller::Reu;
 use transfer::{
     C64Address, DmaState, ExpansionAddress, FULL_64K_TRANSFER_LENGTH, SwapPhase, TransferType,
 };
 
-// ---- a number in the bytes from a place to before an end, the low byte first
-
-fn put(out: &mut [u8], place: usize, end: usize, v: u32)
-    requires place_le_end { place ≤ end }
-    requires end_bound { end ≤ place + 4 }
-    requires end_in_bounds { end ≤ length out.old }
-    requires fits { v < product (radices (end - place)) }
-    ensures { out.new ≡ sets out.old place (parted (radices (end - place)) v) }
+// ---- the bytes of a field from its place on, the low byte of a number first. How many they are says where it ends, and that has to be
+// within the image. A type of places would be no plainer: it would carry the width with it, and the code has the width as N.
+fn put<const N: usize>(out: &mut [u8; IMAGE_BYTES], place: usize, bytes: [u8; N])
+    requires { place + N ≤ image_size }
+    ensures { out.new ≡ sets out.old place bytes.entry }
 {
-    out[place..end].copy_from_slice(&v.to_le_bytes()[..end - place]);
+    out[place..place + N].copy_from_slice(&bytes);
 }
 
-// ---- numbers of what is no number
+// An address in the expansion has three bytes.
+fn three(address: u32) -> [u8; 3]
+    requires { address < expansion_limit }
+    ensures { result ≡ parted (radices 3) address }
+{
+    let [low, middle, high, _] = address.to_le_bytes();
+    [low, middle, high]
+}
+
+// Two bytes of 0 mean 65,536.
+fn remaining(left: u32) -> [u8; 2]
+    ensures { result ≡ parted (radices 2) (remaining_number left) }
+{
+    let [low, high, _, _] = (left % FULL_64K_TRANSFER_LENGTH).to_le_bytes();
+    [low, high]
+}
+
+// ---- numbers of what is no number: those that a saved image has
 
 // Each flag stands beside its bit. A fold over a list of flags would leave the bits to be counted.
 
+#[tactic(auto, using(crate::proofs::Flags::byte_is_bit))]
 fn flags(r: Reu) -> u8
     ensures { result ≡ flags_of (flag_bits r) }
 {
@@ -46,7 +63,7 @@ fn flags(r: Reu) -> u8
         + 128 * u8::from(r.late_ba_fall)
 }
 
-// 512, 256 or 128 KiB.
+// 512, 256 or 128 KiB, by the number that a saved image has for it.
 fn size_code(size: u32) -> u8
     ensures value { result ≡ size_code size }
     ensures upper_bound { result ≤ 2 }
@@ -76,84 +93,56 @@ fn options(d: DmaState) -> u8
 }
 
 // Without a transfer its fields are 0: those of this one are.
-fn zeros() -> DmaState
-    ensures result_value { transfer_numbers (Some result) ≡ transfer_numbers None }
-    ensures room { Room result }
-{
-    DmaState {
-        transfer_type: TransferType::Store,
-        swap_phase: SwapPhase::ReadC64,
-        c64_addr: C64Address(0),
-        reu_addr: ExpansionAddress(0),
-        remaining: 0,
-        fix_c64: false,
-        fix_reu: false,
-        autoload: false,
-        latch: 0,
-        first_byte: false,
-        read_clock_odd: false,
-        verify_tail: false,
-    }
-}
+const ZEROS: DmaState = DmaState {
+    transfer_type: TransferType::Store,
+    swap_phase: SwapPhase::ReadC64,
+    c64_addr: C64Address(0),
+    reu_addr: ExpansionAddress(0),
+    remaining: 0,
+    fix_c64: false,
+    fix_reu: false,
+    autoload: false,
+    latch: 0,
+    first_byte: false,
+    read_clock_odd: false,
+    verify_tail: false,
+};
 
 fn transfer_of(m: Option<DmaState>) -> DmaState
     requires { InRangeDma m }
     ensures result_value { transfer_numbers (Some result) ≡ transfer_numbers m }
     ensures room { Room result }
 {
-    m.unwrap_or(zeros())
+    m.unwrap_or(ZEROS)
 }
 
 // ---- the fields at their places
-fn put_transfer(out: &mut [u8], d: DmaState)
-    requires out_len { length out.old ≡ image_size }
-    requires room { Room d }
+fn put_transfer(out: &mut [u8; IMAGE_BYTES], d: DmaState)
+    requires { Room d }
     ensures { out.new ≡ sets out.old (place_of kind) (laid transfer_part (transfer_numbers (Some d))) }
 {
-    put(out, TYPE, PHASE, u32::from(u8::from(d.transfer_type)));
-    put(
-        out,
-        PHASE,
-        TRANSFER_C64,
-        u32::from(d.swap_phase == SwapPhase::WriteC64),
-    );
-    put(
-        out,
-        TRANSFER_C64,
-        TRANSFER_EXPANSION,
-        u32::from(d.c64_addr.0),
-    );
-    put(out, TRANSFER_EXPANSION, REMAINING, d.reu_addr.0);
-    // Two bytes of 0 mean 65,536.
-    put(
-        out,
-        REMAINING,
-        LATCH,
-        d.remaining % FULL_64K_TRANSFER_LENGTH,
-    );
-    put(out, LATCH, OPTIONS, u32::from(d.latch));
-    put(out, OPTIONS, GRANTED_CYCLES, u32::from(options(d)));
+    put(out, TYPE, [u8::from(d.transfer_type)]);
+    put(out, PHASE, [u8::from(d.swap_phase == SwapPhase::WriteC64)]);
+    put(out, TRANSFER_C64, d.c64_addr.0.to_le_bytes());
+    put(out, TRANSFER_EXPANSION, three(d.reu_addr.0));
+    put(out, REMAINING, remaining(d.remaining));
+    put(out, LATCH, [d.latch]);
+    put(out, OPTIONS, [options(d)]);
 }
 
 // The image of a controller that opening would accept: a number that is too large would not fit its bytes.
-pub(crate) fn pack(out: &mut [u8], reu: Reu)
-    requires out_len { length out.old ≡ image_size }
-    requires reu_value { well_formed reu ≡ true }
+pub(crate) fn pack(out: &mut [u8; IMAGE_BYTES], reu: Reu)
+    requires { well_formed reu ≡ true }
     ensures { out.new ≡ pack_image reu }
 {
-    out[..SHADOW_C64].copy_from_slice(&reu.regs);
-    put(
-        out,
-        SHADOW_C64,
-        SHADOW_EXPANSION,
-        u32::from(reu.shadow_c64_addr),
-    );
-    put(out, SHADOW_EXPANSION, SHADOW_LENGTH, reu.shadow_reu_addr);
-    put(out, SHADOW_LENGTH, FLAGS, u32::from(reu.shadow_len));
-    put(out, FLAGS, MORE_FLAGS, u32::from(flags(reu)));
-    put(out, MORE_FLAGS, DELAY, u32::from(more_flags(reu)));
-    put(out, DELAY, TRANSFER, u32::from(reu.swap_read_delay));
-    put(out, TRANSFER, TYPE, u32::from(reu.dma.is_some()));
+    put(out, REGISTERS, reu.regs);
+    put(out, SHADOW_C64, reu.shadow_c64_addr.to_le_bytes());
+    put(out, SHADOW_EXPANSION, three(reu.shadow_reu_addr));
+    put(out, SHADOW_LENGTH, reu.shadow_len.to_le_bytes());
+    put(out, FLAGS, [flags(reu)]);
+    put(out, MORE_FLAGS, [more_flags(reu)]);
+    put(out, DELAY, [reu.swap_read_delay]);
+    put(out, TRANSFER, [u8::from(reu.dma.is_some())]);
     put_transfer(out, transfer_of(reu.dma));
-    put(out, GRANTED_CYCLES, IMAGE_BYTES, reu.granted_cycles);
+    put(out, GRANTED_CYCLES, reu.granted_cycles.to_le_bytes());
 }

@@ -1,31 +1,50 @@
 // The controller that an image holds, field by field, and whether each field is in its range.
-ghost use Rattle.std.specs.Prelude.{◌≡◌, ◌+◌, ◌-◌, ◌≤◌, ◌<◌, drop, length, take};
-ghost use Rattle.transfer.specs.Constants.{register_count};
-ghost use Rattle.image.specs.Radix.{below, joined, product};
+ghost use Rattle.std.specs.Prelude.{◌≡◌, ◌+◌, ◌≤◌, drop, take};
+ghost use Rattle.std.specs.List.{list_all};
+ghost use Rattle.controller.specs.Prelude.{eqb};
+ghost use Rattle.image.specs.Radix.{below, joined};
 ghost use Rattle.image.specs.Fields.{lifted, radices, values};
-ghost use Rattle.image.specs.Layout.{at, dma_in, fields, image_size, kind, phase_of, reu_at, size_of, transfer_fields, transfer_of};
+ghost use Rattle.image.specs.Layout.{dma_in, fields, image_size, kind, phase_of, reu_at, size_of, transfer_fields, transfer_of};
 ghost use Rattle.image.specs.Inner.{gets};
 ghost use Rattle.image.specs.Open.{all_zero, bytes_ok};
 
 use crate::layout;
 use crate::layout::IMAGE_BYTES;
 use controller::Reu;
-use regs::{REGISTER_COUNT, length_of};
+use regs::length_of;
 use transfer::{C64Address, DmaState, ExpansionAddress, SwapPhase, TransferType};
 
-// ---- the number in the bytes from a place to before an end, the low byte first
-fn get(image: &[u8; IMAGE_BYTES], place: usize, end: usize) -> u32
-    requires place_le_end { place ≤ end }
-    requires end_bound { end ≤ place + 4 }
-    requires end_in_bounds { end ≤ image_size }
-    ensures value { result ≡ joined (radices (end - place)) (gets place (end - place) image.now) }
-    ensures upper_bound { result < product (radices (end - place)) }
+// ---- the bytes of a field from its place on, and a number of two or three, the low byte first. A place is where a field starts, and not how
+// wide it is, so each of these asks that what it reads ends within the image. A type of places would be no plainer: it would carry the
+// width with it, and the code has the width as N.
+#[tactic(auto, using(crate::proofs::Gets::gets_slice))]
+fn bytes<const N: usize>(image: &[u8; IMAGE_BYTES], place: usize) -> [u8; N]
+    requires { place + N ≤ image_size }
+    ensures { result ≡ gets place N image.now }
 {
-    let mut bytes = [0u8; 4];
-    bytes[..end - place].copy_from_slice(&image[place..end]);
-    u32::from_le_bytes(bytes)
+    let mut found = [0; N];
+    found.copy_from_slice(&image[place..place + N]);
+    found
 }
 
+fn word(image: &[u8; IMAGE_BYTES], place: usize) -> u16
+    requires { place + 2 ≤ image_size }
+    ensures { result ≡ joined (radices 2) (gets place 2 image.now) }
+{
+    u16::from_le_bytes(bytes(image, place))
+}
+
+// An address in the expansion has three bytes.
+fn three(image: &[u8; IMAGE_BYTES], place: usize) -> u32
+    requires { place + 3 ≤ image_size }
+    ensures { result ≡ joined (radices 3) (gets place 3 image.now) }
+{
+    let [low, middle, high] = bytes::<3>(image, place);
+    u32::from_le_bytes([low, middle, high, 0])
+}
+
+// A phase and a size are numbers here since a saved image holds bytes. A `match` is plainer than a table of sizes: the code of a size would be
+// searched there, an index of another type, and the search could find none.
 fn phase_of(n: u8) -> SwapPhase
     ensures { result ≡ phase_of n }
 {
@@ -46,16 +65,17 @@ fn size_of(code: u8) -> u32
     }
 }
 
-// ---- the controller
+// ---- the controller. Each flag stands beside its bit, as in `pack`
+#[tactic(auto, using(crate::proofs::ByBytes::transfer_listed))]
 fn transfer_at(image: &[u8; IMAGE_BYTES]) -> DmaState
     ensures { result ≡ transfer_of (lifted fields image.now) }
 {
     let options = image[layout::OPTIONS];
     let kind = TransferType::from_command(image[layout::TYPE]);
     let phase = phase_of(image[layout::PHASE]);
-    let c64 = C64Address(get(image, layout::TRANSFER_C64, layout::TRANSFER_EXPANSION) as u16);
-    let exp = ExpansionAddress(get(image, layout::TRANSFER_EXPANSION, layout::REMAINING));
-    let left = length_of(get(image, layout::REMAINING, layout::LATCH) as u16);
+    let c64 = C64Address(word(image, layout::TRANSFER_C64));
+    let exp = ExpansionAddress(three(image, layout::TRANSFER_EXPANSION));
+    let left = length_of(word(image, layout::REMAINING));
     DmaState {
         transfer_type: kind,
         swap_phase: phase,
@@ -82,25 +102,16 @@ fn dma_at(image: &[u8; IMAGE_BYTES]) -> Option<DmaState>
     }
 }
 
-// The registers come first, each at its number.
-fn registers_at(image: &[u8; IMAGE_BYTES]) -> [u8; REGISTER_COUNT]
-    ensures { result ≡ take register_count image.now }
-{
-    let mut regs = [0; REGISTER_COUNT];
-    regs.copy_from_slice(&image[..REGISTER_COUNT]);
-    regs
-}
-
 pub(crate) fn controller_at(image: &[u8; IMAGE_BYTES]) -> Reu
     ensures { result ≡ reu_at image.now }
 {
     let flags = image[layout::FLAGS];
     let more = image[layout::MORE_FLAGS];
     Reu {
-        regs: registers_at(image),
-        shadow_c64_addr: get(image, layout::SHADOW_C64, layout::SHADOW_EXPANSION) as u16,
-        shadow_reu_addr: get(image, layout::SHADOW_EXPANSION, layout::SHADOW_LENGTH),
-        shadow_len: get(image, layout::SHADOW_LENGTH, layout::FLAGS) as u16,
+        regs: bytes(image, layout::REGISTERS),
+        shadow_c64_addr: word(image, layout::SHADOW_C64),
+        shadow_reu_addr: three(image, layout::SHADOW_EXPANSION),
+        shadow_len: word(image, layout::SHADOW_LENGTH),
         enabled: flags & 0x01 != 0,
         irq_pending: flags & 0x02 != 0,
         attached: flags & 0x04 != 0,
@@ -113,7 +124,7 @@ pub(crate) fn controller_at(image: &[u8; IMAGE_BYTES]) -> Reu
         swap_release_pending: more & 0x02 != 0,
         swap_read_delay: image[layout::DELAY],
         dma: dma_at(image),
-        granted_cycles: get(image, layout::GRANTED_CYCLES, layout::IMAGE_BYTES),
+        granted_cycles: u32::from_le_bytes(bytes(image, layout::GRANTED_CYCLES)),
         size: size_of(more / 4),
     }
 }
@@ -132,22 +143,20 @@ fn ranges_ok(image: &[u8; IMAGE_BYTES]) -> bool
         & (image[layout::OPTIONS] < 64)
 }
 
-// Without a transfer its fields are 0.
+fn only_zeros(bytes: &[u8]) -> bool
+    ensures { result ≡ list_all (λ b. eqb b 0) bytes.now }
+{
+    bytes.iter().all(|b| *b == 0)
+}
+
+// Without a transfer its fields are 0: a number is where each of its bytes is.
 fn idle_ok(image: &[u8; IMAGE_BYTES]) -> bool
     ensures { result ≡ all_zero (take transfer_fields (drop kind (lifted fields image.now))) }
 {
-    let c64 = get(image, layout::TRANSFER_C64, layout::TRANSFER_EXPANSION);
-    let exp = get(image, layout::TRANSFER_EXPANSION, layout::REMAINING);
-    let left = get(image, layout::REMAINING, layout::LATCH);
-    (image[layout::TYPE] == 0)
-        & (image[layout::PHASE] == 0)
-        & (c64 == 0)
-        & (exp == 0)
-        & (left == 0)
-        & (image[layout::LATCH] == 0)
-        & (image[layout::OPTIONS] == 0)
+    only_zeros(&image[layout::TYPE..layout::GRANTED_CYCLES])
 }
 
+#[tactic(auto, using(crate::proofs::ByBytes::ok_idle, crate::proofs::ByBytes::ok_some))]
 pub(crate) fn bytes_ok(image: &[u8; IMAGE_BYTES]) -> bool
     ensures { result ≡ bytes_ok image.now }
 {

@@ -7,6 +7,7 @@ use Rattle.lines.specs.Beside.{beside_row}
 use Rattle.lines.specs.declared.beside.Between.TheVariants.{Differing}
 use Rattle.lines.specs.declared.files.Length.TheVariants.{Exactly, MoreThan}
 use Rattle.lines.specs.declared.files.Part.TheVariants.{Image, Bus, Storage}
+use Rattle.lines.specs.declared.memory.Memory.TheVariants.{Bus as OfBus, Storage as OfStorage}
 use Rattle.lines.specs.Clock.{inputs_of, is_pattern}
 use Rattle.lines.specs.Commands.{is_comment, line_fault, size_fault, size_typed}
 use Rattle.lines.specs.Keys.{command_of, commands, name_of}
@@ -17,9 +18,13 @@ two_bytes : stored (ascii "> $2 11 +34") (replicate 5 0) ≡ 0 ∷ 0 ∷ 0x11 �
 unfolding words_from word_from number_of digits_from bytes_from each
 two_bytes = refl
 
-shown_again : bytes_line false (0 ∷ 0 ∷ 0x11 ∷ 0x22 ∷ 0 ∷ []) 2 3 ≡ ascii "> 0002 11 22"
+shown_again : bytes_line OfBus (0 ∷ 0 ∷ 0x11 ∷ 0x22 ∷ 0 ∷ []) 2 3 ≡ ascii "> 0002 11 22"
 unfolding bytes_text hex_of ◌⊕◌
 shown_again = refl
+
+shown_of_storage : bytes_line OfStorage (0 ∷ 0 ∷ 0x11 ∷ 0x22 ∷ 0 ∷ []) 2 3 ≡ ascii ">s 00002 11 22"
+unfolding bytes_text hex_of ◌⊕◌
+shown_of_storage = refl
 
 past_the_end : line_fault (ascii "> FFFF 1 2") 0x7FFFF ≡ ascii "> runs past the last address"
 unfolding line_fault is_comment command_of store_fault fault_of faults_from fill_from same words_from word_from number_of digits_from ◌⊕◌

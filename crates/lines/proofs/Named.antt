@@ -1,5 +1,5 @@
 -- A word and its command: the word is the command's name.
-use Rattle.std.proofs.Common.{◌≡◌, ℕ, Bool, true, false, cond, eqb, List, [], ◌∷◌, Some, None, Option, refl, sym, ap, ◌∙◌, eqb-true, subst}
+use Rattle.std.proofs.Common.{◌≡◌, ℕ, Bool, true, false, cond, eqb, List, [], ◌∷◌, Some, None, Option, refl, eqb-true, subst}
 use mathlib.Core.Bool.{false≢true}
 use Rattle.std.specs.Prelude.{find}
 use Rattle.text.specs.Typed.{same}

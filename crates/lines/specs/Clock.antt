@@ -1,5 +1,5 @@
 -- Time: the number of the next cycle, and the BA inputs of those to come, a letter each.
-use Rattle.std.specs.Prelude.{ℕ, ◌+◌, ◌-◌, ◌%◌, ◌^◌, Bool, cond, List, length, eqb, ltb, Option, Some, None, is_some, unwrap_or, slice_index_or}
+use Rattle.std.specs.Prelude.{ℕ, ◌+◌, ◌-◌, ◌%◌, ◌^◌, Bool, false, cond, List, length, eqb, ltb, Option, Some, None, is_some, unwrap_or, slice_index_or}
 use Rattle.std.specs.List.{list_all}
 use Rattle.transfer.specs.Bytes.{bit}
 use Rattle.text.specs.Shown.{text_of}
@@ -19,9 +19,13 @@ inputs_of c =
     (cond (eqb c 114) (Some (said_by 0b100))
     (cond (ltb c 48) None (cond (ltb c 56) (Some (said_by (c - 48))) None)))))
 
--- what is no letter says of BA what 0 says
+-- what a cycle is given that has no letter of a pattern: none of the three
+abbrev pub nothing_said : Inputs
+nothing_said = record { ba_high = false; ba_high_phi1 = false; ba_low = false }
+
+-- the inputs that a cycle is given
 abbrev pub inputs_shown : ℕ → Inputs
-inputs_shown c = unwrap_or (inputs_of c) (said_by 0)
+inputs_shown c = unwrap_or (inputs_of c) nothing_said
 
 -- a pattern has only letters
 abbrev pub is_pattern : List ℕ → Bool

@@ -26,6 +26,7 @@ abbrev pub has_text : List ℕ → Bool
 has_text [] = false
 has_text (c ∷ s) = cond (eqb c 37) (has_text s) true
 
+-- a template that has one
 abbrev pub HasText : List ℕ → Type 0
 HasText s = has_text s ≡ true
 
@@ -58,6 +59,7 @@ abbrev pub size_fault_by : Option ℕ → List ℕ → List ℕ
 size_fault_by None t = fill_of "usage: % 128, % 256 or % 512 (KiB), before enable" (word_of 0 t)
 size_fault_by (Some size) t = exactly 2 "usage: % 128, % 256 or % 512 (KiB), before enable" t
 
+-- the same of a line's second word
 unfoldable pub size_fault : List ℕ → List ℕ
 size_fault t = size_fault_by (size_typed (word_of 1 t)) t
 

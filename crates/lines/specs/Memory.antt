@@ -1,10 +1,12 @@
 -- Bytes of the bus and of the storage: `>`, `>s`, `m` and `ms`. t is the line that was typed.
-use Rattle.std.specs.Prelude.{ℕ, zero, suc, ◌+◌, ◌-◌, ◌%◌, min, Bool, cond, List, [], ◌∷◌, ◌++◌, take, drop, ◌==◌, leb, ltb, slice_set}
+use Rattle.std.specs.Prelude.{ℕ, zero, suc, ◌+◌, ◌-◌, ◌%◌, min, cond, List, [], ◌∷◌, ◌++◌, take, drop, ◌==◌, leb, ltb, slice_set}
 use Rattle.transfer.specs.Memory.{zeros}
 use Rattle.text.specs.Faults.{fault_of, faults_of, or_else}
 use Rattle.text.specs.Bytes.{byte_at}
 use Rattle.text.specs.Shown.{◌⊕◌, ascii, hex_of, fill_of}
 use Rattle.text.specs.Typed.{number_of, value_of, word_of, words_of}
+use Rattle.lines.specs.declared.memory.Memory.{Memory}
+use Rattle.lines.specs.declared.memory.Memory.TheVariants.{Bus, Storage}
 
 -- what lies from a place on is 0
 abbrev pub cleared_from : ℕ → List ℕ → List ℕ
@@ -45,16 +47,17 @@ store_fault t most =
 -- ---- m and ms
 
 -- the address as the command that puts bytes there has it
-abbrev pub address_text : Bool → ℕ → List ℕ
-address_text storage a = cond storage ([] ⊕ ascii ">s " ⊕ hex_of 5 a) ([] ⊕ ascii "> " ⊕ hex_of 4 a)
+abbrev pub address_text : Memory → ℕ → List ℕ
+address_text Bus a = [] ⊕ ascii "> " ⊕ hex_of 4 a
+address_text Storage a = [] ⊕ ascii ">s " ⊕ hex_of 5 a
 
 -- k bytes from an address on, behind a text, as far as `end`
 unfoldable pub bytes_text : ℕ → List ℕ → ℕ → ℕ → List ℕ → List ℕ
 bytes_text zero m a end t = t
 bytes_text (suc k) m a end t = bytes_text k m (a + 1) end (cond (leb a end) (t ⊕ ascii " " ⊕ hex_of 2 (byte_at m a)) t)
 
-abbrev pub bytes_line : Bool → List ℕ → ℕ → ℕ → List ℕ
-bytes_line storage m a end = bytes_text 16 m a end (address_text storage a)
+abbrev pub bytes_line : Memory → List ℕ → ℕ → ℕ → List ℕ
+bytes_line kind m a end = bytes_text 16 m a end (address_text kind a)
 
 -- the last address to show: the third word, or 63 addresses on
 unfoldable pub end_of : List ℕ → ℕ → ℕ

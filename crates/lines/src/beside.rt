@@ -1,9 +1,9 @@
-// Two panes side by side: a row, and beside it what another machine has there, or what the row was before.
+// Two panes side by side: a row, and beside it what another machine has there, or what the row was before. A row that a machine has not has no
+// bytes, and is no `None`: the two are compared and shown as any others.
 ghost use Rattle.std.specs.Prelude.{◌≡◌, ◌≤◌, length};
 ghost use Rattle.text.specs.Shown.{text_of};
 ghost use Rattle.lines.specs.Beside.{Shows, beside_row, every_of, is_shown, labelled, marked, sign_of, two_rows};
 
-use crate::texts::is_same;
 use text::bytes::{after, first};
 use text::line::Line;
 
@@ -57,10 +57,9 @@ fn two(row: &Line, between: Between, other: &Line) -> Line
     ensures { text_of result ≡ two_rows (text_of row.now) (sign_of between) (text_of other.now) }
 {
     if other.is_empty() {
-        return Line::new().text(row.as_bytes());
+        return Line::from(row.as_bytes());
     }
-    Line::new()
-        .text(label(row, other))
+    Line::from(label(row, other))
         .pad(44)
         .put(between.sign())
         .put(b' ')
@@ -82,7 +81,7 @@ fn is_shown(agree: bool, between: Between, none: bool) -> bool
 pub fn beside(row: &Line, between: Between, other: &Line) -> Option<Line>
     ensures { Shows result (beside_row (text_of row.now) between (text_of other.now)) }
 {
-    let agree = is_same(row.as_bytes(), other.as_bytes());
+    let agree = row.as_bytes() == other.as_bytes();
     if !is_shown(agree, between, row.is_empty()) {
         return None;
     }

@@ -1,7 +1,7 @@
 // Time: the number of the next cycle, and the BA inputs of those to come.
-ghost use Rattle.std.specs.Prelude.{◌≡◌, ◌+◌, [], if◌then◌else◌, ltb};
+ghost use Rattle.std.specs.Prelude.{◌≡◌, []};
 ghost use Rattle.text.specs.Shown.{text_of};
-ghost use Rattle.lines.specs.Clock.{inputs_of, inputs_shown, is_pattern, letter_of, next_clock, said_by};
+ghost use Rattle.lines.specs.Clock.{inputs_of, is_pattern, letter_of, next_clock, said_by};
 
 use text::line::Line;
 
@@ -11,6 +11,15 @@ pub struct Inputs {
     pub ba_high: bool,
     pub ba_high_phi1: bool,
     pub ba_low: bool,
+}
+
+impl Inputs {
+    // What is no letter says nothing of BA.
+    pub const NOTHING: Inputs = Inputs {
+        ba_high: false,
+        ba_high_phi1: false,
+        ba_low: false,
+    };
 }
 
 #[derive(Drop)]
@@ -33,7 +42,7 @@ fn said_by(number: u8) -> Inputs
     }
 }
 
-// What a letter says of BA.
+// What a letter says of BA. An Option and no `TryFrom`: of what is no letter there is no more to say.
 #[tactic(auto, unfolding(crate::specs::Clock::inputs_of))]
 fn inputs_of(letter: u8) -> Option<Inputs>
     ensures { result ≡ inputs_of letter }
@@ -76,11 +85,11 @@ impl Clock {
         self.ba.as_bytes().get(self.at).copied().unwrap_or(b'h')
     }
 
-    // The inputs of the next cycle. What is no letter says nothing of BA.
-    pub fn inputs(&self) -> Inputs
-        ensures { result ≡ inputs_shown (letter_of self.now) }
+    // The inputs of the next cycle; none where its letter is no letter of a pattern.
+    pub fn inputs(&self) -> Option<Inputs>
+        ensures { result ≡ inputs_of (letter_of self.now) }
     {
-        inputs_of(self.letter()).unwrap_or(said_by(0))
+        inputs_of(self.letter())
     }
 
     // After a cycle. Cycle numbers have 64 bits, and after the last comes 0.
@@ -90,8 +99,8 @@ impl Clock {
         let later = self.at + usize::from(self.at < self.ba.as_bytes().len());
         Clock {
             cycle: self.cycle.wrapping_add(1),
-            ba: self.ba,
             at: later,
+            ..self
         }
     }
 }

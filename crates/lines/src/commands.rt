@@ -1,4 +1,5 @@
-// Which command a line is, and what is wrong with its words.
+// Which command a line is, and what is wrong with its words. Each function finds the words that it needs in the line: a parsed line would have
+// room for 80 words, since there is no heap.
 ghost use Rattle.std.specs.Prelude.{◌≡◌, find, [], if◌then◌else◌, eqb};
 ghost use Rattle.text.specs.Faults.{Says};
 ghost use Rattle.text.specs.Shown.{◌⊕◌, fill_from};
@@ -11,7 +12,7 @@ use crate::clock::is_pattern;
 use crate::keys::{COMMANDS, Command};
 use crate::memory::{LAST_ADDRESS, show_fault, store_fault};
 use crate::registers::{read_fault, write_fault};
-use crate::texts::{is_same, refuse};
+use crate::texts::refuse;
 use text::faults::number;
 use text::line::{Line, WIDTH};
 use text::words::{word, word_count};
@@ -27,10 +28,10 @@ fn first_named(commands: &[Command], word: &[u8]) -> Option<Command>
     commands
         .iter()
         .copied()
-        .find(|command| is_same(command.name(), word))
+        .find(|command| command.is_named(word))
 }
 
-// The command that a line's first word is.
+// The command that a line's first word is. An Option and no `TryFrom`: of another word there is no more to say.
 #[tactic(auto, unfolding(crate::specs::Keys::command_of))]
 pub fn command(line: &[u8]) -> Option<Command>
     ensures { result ≡ command_of (word_of 0 line.now) }
@@ -68,7 +69,7 @@ pub fn is_comment(line: &[u8]) -> bool
 
 // ---- what is wrong
 
-// A number that may be left out.
+// A number that may be left out, by how many words there are.
 #[tactic(auto, unfolding(crate::specs::Commands::count_fault))]
 fn count_fault(line: &[u8]) -> Result<(), Line>
     ensures { Says result (count_fault line.now) }
@@ -83,7 +84,7 @@ fn count_fault(line: &[u8]) -> Result<(), Line>
     }
 }
 
-// A line has exactly so many words.
+// A line has exactly so many words. What it asks of the usage is asked inside this crate alone, where each is written out.
 fn exactly(line: &[u8], words: usize, usage: &[u8]) -> Result<(), Line>
     requires { HasText usage.now }
     ensures { Says result (if eqb (words_of line.now) words then [] else ([] ⊕ fill_from usage.now (word_of 0 line.now))) }
@@ -122,20 +123,16 @@ fn ba_fault(line: &[u8]) -> Result<(), Line>
 }
 
 // The size in bytes that a word says in KiB. The numbers of other commands are hexadecimal, but these are the names that the units have.
-#[tactic(auto, unfolding(crate::specs::Commands::size_typed))]
+#[tactic(auto, unfolding(crate::specs::Commands::size_typed, text::specs::Typed::same))]
 pub fn size_typed(word: &[u8]) -> Option<u64>
     ensures { result ≡ size_typed word.now }
 {
-    if is_same(b"128", word) {
-        return Some(131072);
+    match word {
+        b"128" => Some(131072),
+        b"256" => Some(262144),
+        b"512" => Some(524288),
+        _ => None,
     }
-    if is_same(b"256", word) {
-        return Some(262144);
-    }
-    if is_same(b"512", word) {
-        return Some(524288);
-    }
-    None
 }
 
 #[tactic(auto, unfolding(crate::specs::Commands::size_fault))]
@@ -182,7 +179,7 @@ pub fn line_fault(line: &[u8], last: u32) -> Result<(), Line>
     ensures { Says result (line_fault line.now last) }
 {
     if WIDTH <= line.len() {
-        return Err(Line::new().text(b"this line is too long: 159 characters are the most"));
+        return Err(Line::from(b"this line is too long: 159 characters are the most"));
     }
     if is_comment(line) {
         return Ok(());

@@ -1,12 +1,11 @@
 // The three files of a saved machine.
 ghost use Rattle.std.specs.Prelude.{◌≡◌, ◌≤◌, [], length};
 ghost use Rattle.text.specs.Shown.{◌⊕◌, text_of};
-ghost use Rattle.lines.specs.Files.{copied_over, is_earlier, length_fault, length_text, part_name, reason_text, suffix_of};
+ghost use Rattle.lines.specs.Files.{is_earlier, length_fault, length_text, part_name, reason_text, suffix_of};
 
-use text::bytes::first;
 use text::line::Line;
 
-// Images that earlier releases saved: before the count of granted cycles was in them, and with three bytes for what remains.
+// Lengths of images that earlier releases saved: before the count of granted cycles was in them, and with three bytes for what remains.
 const IMAGE_BEFORE_COUNT: usize = 34;
 
 const IMAGE_WITH_THREE_BYTES: usize = 38;
@@ -45,19 +44,12 @@ pub fn part_name(name: &[u8], part: Part) -> Line
     ensures cut { text_of result ≡ [] ⊕ part_name name.now part }
     ensures whole { length name.now ≤ 160 → text_of result ≡ part_name name.now part }
 {
-    Line::new().text(name).text(part.suffix())
-}
-
-// Bytes over others, from the first on. What has no room is left out.
-pub fn copy(from: &[u8], to: &mut [u8])
-    ensures { to.new ≡ copied_over from.now to.old }
-{
-    let part = first(from, to.len());
-    to[..part.len()].copy_from_slice(part);
+    Line::from(name).text(part.suffix())
 }
 
 // ---- a file that has another length than its part needs
 
+// Lengths are cast to 64 bits, which a line shows: `u64` has no `From` of `usize`, and nothing is lost.
 #[tactic(auto, unfolding(crate::specs::Files::length_text))]
 fn length_text(file: &[u8], got: Length) -> Line
     ensures { text_of result ≡ length_text file.now got }

@@ -1,5 +1,6 @@
 // The commands, and the words that they are typed as.
 ghost use Rattle.std.specs.Prelude.{◌≡◌};
+ghost use Rattle.text.specs.Typed.{same};
 ghost use Rattle.lines.specs.Keys.{name_of};
 
 #[derive(Clone, Copy, PartialEq, Eq, Debug)]
@@ -86,5 +87,13 @@ impl Command {
             Command::Q => b"q",
             Command::Size => b"size",
         }
+    }
+
+    // Whether a word is it.
+    #[tactic(auto, using(text::proofs::Same::same_is))]
+    pub(crate) fn is_named(self, word: &[u8]) -> bool
+        ensures { result ≡ same (name_of self) word.now }
+    {
+        self.name() == word
     }
 }

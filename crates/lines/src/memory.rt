@@ -1,9 +1,9 @@
-// Bytes of the bus and of the storage, and the words of a line as bytes.
-ghost use Rattle.std.specs.Prelude.{◌≡◌, ◌≤◌, min, length, set as list_set, replicate, if◌then◌else◌, leb};
-ghost use Rattle.text.specs.Bytes.{byte_at};
+// Bytes of the bus and of the storage, and the words of a line as bytes. Addresses are cast where they index: `usize` has no `From` of `u32`,
+// and nothing is lost.
+ghost use Rattle.std.specs.Prelude.{◌≡◌, ◌≤◌, ℕ, List, length, set as list_set, replicate};
 ghost use Rattle.text.specs.Faults.{Says};
-ghost use Rattle.text.specs.Shown.{◌⊕◌, ascii, hex_of, text_of};
-ghost use Rattle.lines.specs.Memory.{address, address_text, bytes_line, cleared_from, end_of, range_fault, show_fault, store_fault, stored, typed};
+ghost use Rattle.text.specs.Shown.{text_of};
+ghost use Rattle.lines.specs.Memory.{address, address_text, bytes_line, bytes_of, cleared_from, each, end_of, range_fault, show_fault, store_fault, stored, typed};
 
 use crate::texts::refuse;
 use text::bytes::byte;
@@ -18,9 +18,16 @@ const PER_LINE: usize = 16;
 // How many more bytes are shown where no end is given.
 const SHOWN: u32 = 63;
 
+// Which of the two memories bytes are in.
+#[derive(Clone, Copy, PartialEq, Eq, Debug)]
+pub enum Memory {
+    Bus,
+    Storage,
+}
+
 // ---- a new machine's
 
-// Its bus or its storage.
+// Its bus or its storage: an array, since there is no heap.
 pub fn empty<const N: usize>() -> [u8; N]
     ensures value { result ≡ replicate N 0 }
     ensures long { N ≡ length result }
@@ -39,14 +46,6 @@ pub fn clear_from(memory: &mut [u8], from: usize)
 
 // ---- bytes and words
 
-fn put(s: &mut [u8], i: usize, value: u8)
-    ensures { s.new ≡ list_set s.old i value }
-{
-    if i < s.len() {
-        s[i] = value;
-    }
-}
-
 // The address that the second word of a line is.
 pub fn address_of(line: &[u8]) -> u32
     ensures value { result ≡ address line.now }
@@ -55,24 +54,53 @@ pub fn address_of(line: &[u8]) -> u32
     value(word(line, 1))
 }
 
-// The byte that a word is.
+// The byte that a word is: the low one of its number.
 pub fn byte_of(line: &[u8], i: usize) -> u8
     ensures { result ≡ typed line.now i }
 {
-    (value(word(line, i)) % 256) as u8
+    value(word(line, i)).to_le_bytes()[0]
 }
 
 // ---- > and >s
 
-// The third word's byte goes to the address, the fourth's to the next, and so on. What is done with a byte is no closure that the loop
-// takes: its calls would need a `requires`, which no public function has.
-pub fn store(line: &[u8], memory: &mut [u8])
-    ensures { memory.new ≡ stored line.now memory.old }
+// Where the bytes of a line go, one after another.
+pub trait Target {
+    // What lies there after a byte at an address.
+    ghost after: { ℕ → ℕ → List ℕ → List ℕ };
+
+    fn put(bytes: &mut [u8], at: usize, value: u8)
+        ensures { bytes.new ≡ after at value bytes.old };
+}
+
+// Each byte at its own address, and none past the end.
+struct Cells;
+
+impl Target for Cells {
+    ghost after = { λ at value bytes. list_set bytes at value };
+
+    // A test and an index: what a slice holds after a write through its `get_mut` is in no contract of the library.
+    fn put(bytes: &mut [u8], at: usize, value: u8) {
+        if at < bytes.len() {
+            bytes[at] = value;
+        }
+    }
+}
+
+// The third word's byte goes to the address, the fourth's to the next, and so on. By a word's number: see words.rt of `text`.
+pub fn put_each<T: Target>(line: &[u8], bytes: &mut [u8])
+    ensures { bytes.new ≡ each T.after (address line.now) (bytes_of line.now) bytes.old }
 {
     let from = address_of(line) as usize;
     for i in 2..word_count(line) {
-        put(memory, from + (i - 2), byte_of(line, i));
+        T::put(bytes, from + (i - 2), byte_of(line, i));
     }
+}
+
+// Into a memory.
+pub fn store(line: &[u8], memory: &mut [u8])
+    ensures { memory.new ≡ stored line.now memory.old }
+{
+    put_each::<Cells>(line, memory);
 }
 
 // What is wrong with an address and bytes after it.
@@ -94,31 +122,24 @@ pub fn store_fault(line: &[u8], most: u32) -> Result<(), Line>
 // ---- m and ms
 
 // The address as the command that puts bytes there has it.
-fn address_text(storage: bool, address: u32) -> Line
-    ensures { text_of result ≡ address_text storage address }
+fn address_text(kind: Memory, address: u32) -> Line
+    ensures { text_of result ≡ address_text kind address }
 {
-    if storage {
-        return Line::new().text(b">s ").hex(5, address);
+    match kind {
+        Memory::Bus => Line::from(b"> ").hex(4, address),
+        Memory::Storage => Line::from(b">s ").hex(5, address),
     }
-    Line::new().text(b"> ").hex(4, address)
 }
 
-fn byte_up_to(line: Line, memory: &[u8], at: usize, end: usize) -> Line
-    ensures { text_of result ≡ (if leb at end then (text_of line ⊕ ascii " " ⊕ hex_of 2 (byte_at memory.now at)) else text_of line) }
+// A line of bytes, from an address on and not past `end`. By addresses and not over the memory's bytes: past its end 0 is shown.
+pub fn bytes_line(kind: Memory, memory: &[u8], from: u32, end: u32) -> Line
+    ensures { text_of result ≡ bytes_line kind memory.now from end }
 {
-    if at <= end {
-        return line.text(b" ").hex(2, u32::from(byte(memory, at)));
-    }
-    line
-}
-
-// A line of bytes, from an address on and not past `end`.
-pub fn bytes_line(storage: bool, memory: &[u8], from: u32, end: u32) -> Line
-    ensures { text_of result ≡ bytes_line storage memory.now from end }
-{
-    let mut line = address_text(storage, from);
-    for i in 0..PER_LINE {
-        line = byte_up_to(line, memory, (from as usize) + i, end as usize);
+    let start = from as usize;
+    let stop = (start + PER_LINE).min(end as usize + 1);
+    let mut line = address_text(kind, from);
+    for at in start..stop {
+        line = line.text(b" ").hex(2, u32::from(byte(memory, at)));
     }
     line
 }

@@ -11,7 +11,8 @@ fn next_byte(source: &mut impl Read) -> Option<u8> {
     }
 }
 
-// Up to the line's end; none at the input's end. Input that ends in the middle of a line is a line too.
+// Up to the line's end; none at the input's end. Input that ends in the middle of a line is a line too. A `loop` until input ends has no measure
+// by which it is seen to end, so that this one counts, to a number that is never reached.
 pub(crate) fn read_line(source: &mut impl Read) -> Option<Line> {
     let mut line = Line::new();
     for _ in 0..u64::MAX {

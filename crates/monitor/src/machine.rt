@@ -1,4 +1,5 @@
-// The machine that a session is about: a controller by its image, the bus, and as many bytes as the largest storage has.
+// The machine that a session is about: a controller by its image, the bus, and as many bytes as the largest storage has. Arrays, since
+// there is no heap.
 use console::session;
 use console::session::{Session, Turned};
 use image::layout::IMAGE_BYTES;
@@ -39,6 +40,7 @@ impl Machine {
         &self.storage[..size]
     }
 
+    // The same, to be written: `&` and `&mut` cannot be one.
     pub(crate) fn lent_mut(&mut self) -> &mut [u8] {
         let size = lent(&self.image, &self.storage);
         &mut self.storage[..size]

@@ -20,16 +20,17 @@ use std::rt::Files;
 use text::line::Line;
 use turn::{Terminal, turn};
 
-// An argument of more than 128 bytes counts as none, and so does one without any.
+// An argument of more than 128 bytes counts as none, and so does one without any. std lays it into an array and says how long it is.
 fn argument(rt: &impl Env, i: usize) -> Option<Line> {
     let mut buffer = [0u8; 128];
     let count = rt.arg(i, &mut buffer).ok()?;
     if count == 0 {
         return None;
     }
-    Some(Line::new().text(&buffer[..count]))
+    Some(Line::from(&buffer[..count]))
 }
 
+// Until the session ends. It counts, as reading a line does, since a `loop` until then has no measure.
 fn turns<S: Read>(
     rt: &(impl Files + Print),
     terminal: &mut Terminal<S>,

@@ -1,6 +1,6 @@
 // Lines to standard output.
 use lines::beside::{Between, beside, mark};
-use lines::memory::{address_of, bytes_line, end_of};
+use lines::memory::{Memory, address_of, bytes_line, end_of};
 use pane::rows::{ROWS, row};
 use std::io;
 use text::line::Line;
@@ -14,40 +14,47 @@ pub(crate) fn say(rt: &impl Print, line: &Line) -> io::Result<()> {
     tell(rt, line.as_bytes())
 }
 
-// A row of the pane: bold, where it is marked and colour was asked for.
-fn say_row(rt: &impl Print, row: &Line, colour: bool) -> io::Result<()> {
-    let marked = matches!(row.as_bytes(), [b'*', ..]);
-    if !(colour & marked) {
-        return say(rt, row);
-    }
-    rt.write_all(b"\x1b[1m")?;
-    say(rt, row)?;
-    rt.write_all(b"\x1b[0m")
+// Where rows are shown, and whether in colour.
+#[derive(Drop)]
+pub(crate) struct Screen<'a, P> {
+    pub rt: &'a P,
+    pub colour: bool,
 }
 
-// A row is made by its number, so the loops over them are over numbers.
-
-// The rows of a pane, each with another pane's beside it, where they are to be shown; answers whether any two differ.
-pub(crate) fn show_beside(
-    rt: &impl Print,
-    image: &[u8],
-    between: Between,
-    other: &[u8],
-    colour: bool,
-) -> io::Result<bool> {
-    let mut differ = false;
-    for i in 0..ROWS {
-        let live = row(image, i);
-        let there = row(other, i);
-        if let Some(shown) = beside(&live, between, &there) {
-            say_row(rt, &shown, colour)?;
+impl<P: Print> Screen<'_, P> {
+    // A row of the pane: bold, where it is marked and colour was asked for.
+    fn say_row(&self, row: &Line) -> io::Result<()> {
+        let marked = matches!(row.as_bytes(), [b'*', ..]);
+        if !(self.colour & marked) {
+            return say(self.rt, row);
         }
-        differ |= live.as_bytes() != there.as_bytes();
+        self.rt.write_all(b"\x1b[1m")?;
+        say(self.rt, row)?;
+        self.rt.write_all(b"\x1b[0m")
     }
-    Ok(differ)
+
+    // The rows of a pane, each with another pane's beside it, where they are to be shown; answers whether any two differ. A row is made by its
+    // number, so the loop is over numbers.
+    pub(crate) fn show_beside(
+        &self,
+        image: &[u8],
+        between: Between,
+        other: &[u8],
+    ) -> io::Result<bool> {
+        let mut differ = false;
+        for i in 0..ROWS {
+            let live = row(image, i);
+            let there = row(other, i);
+            if let Some(shown) = beside(&live, between, &there) {
+                self.say_row(&shown)?;
+            }
+            differ |= live.as_bytes() != there.as_bytes();
+        }
+        Ok(differ)
+    }
 }
 
-// The rows that there are.
+// The rows that there are, by their numbers too.
 pub(crate) fn show_pane(rt: &impl Print, image: &[u8]) -> io::Result<()> {
     for i in 0..ROWS {
         let live = row(image, i);
@@ -58,17 +65,17 @@ pub(crate) fn show_pane(rt: &impl Print, image: &[u8]) -> io::Result<()> {
     Ok(())
 }
 
-// Bytes of the bus or of the storage, sixteen to a line.
+// Bytes of the bus or of the storage, sixteen to a line, by their addresses.
 pub(crate) fn show_bytes(
     rt: &impl Print,
     line: &[u8],
+    kind: Memory,
     memory: &[u8],
-    storage: bool,
     most: u32,
 ) -> io::Result<()> {
     let end = end_of(line, most);
     for at in (address_of(line)..=end).step_by(16) {
-        say(rt, &bytes_line(storage, memory, at, end))?;
+        say(rt, &bytes_line(kind, memory, at, end))?;
     }
     Ok(())
 }

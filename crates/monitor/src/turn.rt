@@ -3,12 +3,12 @@ use crate::files;
 use crate::help::help;
 use crate::input::read_line;
 use crate::machine::Machine;
-use crate::output::{say, show_beside, show_bytes, show_pane, tell};
+use crate::output::{Screen, say, show_bytes, show_pane, tell};
 use console::session::{Session, Turned};
 use lines::beside::{BEFORE, Between};
 use lines::commands::{command, is_change};
 use lines::keys::Command;
-use lines::memory::LAST_ADDRESS;
+use lines::memory::{LAST_ADDRESS, Memory};
 use lines::prompt::{echoed, prompt};
 use pane::rows::size_in;
 use std::io;
@@ -17,7 +17,8 @@ use std::rt::Files;
 use text::line::Line;
 use text::words::word;
 
-// Where commands come from, and how they are shown: in colour, and, where nobody typed them, each before its answer.
+// Where commands come from, and how they are shown: in colour, and, where nobody typed them, each before its answer: both are
+// asked once, at the start.
 #[derive(Drop)]
 pub struct Terminal<S> {
     pub source: S,
@@ -72,37 +73,36 @@ fn say_done(
     }
 }
 
-fn compare(
-    rt: &(impl Files + Print),
+fn compare<P: Files + Print>(
+    screen: &Screen<'_, P>,
     name: &[u8],
     machine: &Machine,
-    colour: bool,
 ) -> io::Result<()> {
-    match files::read_image(rt, name) {
+    match files::read_image(screen.rt, name) {
         Ok(saved) => {
-            show_beside(rt, &machine.image, Between::Every, &saved, colour)?;
+            screen.show_beside(&machine.image, Between::Every, &saved)?;
             Ok(())
         }
-        Err(fault) => say(rt, &fault),
+        Err(fault) => say(screen.rt, &fault),
     }
 }
 
 // The commands that only show, and those on files.
-fn perform(
-    rt: &(impl Files + Print),
+fn perform<P: Files + Print>(
+    screen: &Screen<'_, P>,
     line: &[u8],
-    colour: bool,
     machine: &mut Machine,
 ) -> io::Result<()> {
+    let rt = screen.rt;
     let name = word(line, 1);
     match command(line) {
         Some(Command::R) => show_pane(rt, &machine.image)?,
-        Some(Command::M) => show_bytes(rt, line, &machine.bus, false, LAST_ADDRESS)?,
+        Some(Command::M) => show_bytes(rt, line, Memory::Bus, &machine.bus, LAST_ADDRESS)?,
         Some(Command::Ms) => {
             let last = size_in(&machine.image) - 1;
-            show_bytes(rt, line, &machine.storage, true, last)?
+            show_bytes(rt, line, Memory::Storage, &machine.storage, last)?
         }
-        Some(Command::Beside) => compare(rt, name, machine, colour)?,
+        Some(Command::Beside) => compare(screen, name, machine)?,
         Some(Command::Save) => {
             let saved = files::save(rt, name, machine);
             say_done(rt, saved, b"saved %, %.bus and %.storage", name)?
@@ -119,8 +119,8 @@ fn perform(
 }
 
 // One cycle or one command, and then the rows of the pane that it changed.
-pub(crate) fn turn<S: Read>(
-    rt: &(impl Files + Print),
+pub(crate) fn turn<S: Read, P: Files + Print>(
+    rt: &P,
     session: Session,
     terminal: &mut Terminal<S>,
     machine: &mut Machine,
@@ -137,10 +137,14 @@ pub(crate) fn turn<S: Read>(
     if let Some(said) = said {
         say(rt, &said)?;
     }
+    let screen = Screen {
+        rt,
+        colour: terminal.colour,
+    };
     if let Some(obeyed) = obeyed {
-        perform(rt, obeyed, terminal.colour, machine)?;
+        perform(&screen, obeyed, machine)?;
     }
-    let changed = show_beside(rt, &machine.image, BEFORE, &before, terminal.colour)?;
+    let changed = screen.show_beside(&machine.image, BEFORE, &before)?;
     if !changed & obeyed.is_some_and(is_change) {
         tell(rt, b"nothing changed")?;
     }

@@ -1,3 +1,4 @@
+pub mod Bytes
 pub mod Copies
 pub mod Examples
 pub mod Numbers

@@ -12,6 +12,7 @@ accepted answer = ltb answer refusal_unit
 abbrev pub refused_as : ℕ → List ℕ
 refused_as number = ascii "refused by " ++ decimal_up_to 20 number
 
+-- a refusal by the whole answer, "16,777,216 times the refusal number"
 abbrev pub refused_by : ℕ → List ℕ
 refused_by answer = refused_as (answer / refusal_unit)
 

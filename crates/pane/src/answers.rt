@@ -8,13 +8,13 @@ use text::line::Line;
 // An answer of this or more is a refusal: this times its number.
 const REFUSAL_UNIT: u32 = 16777216;
 
-// A refusal, by its number.
+// A refusal, by its number: any code that refuses has one, and a message shows it, also one that is no `controller::Refusal`.
 #[derive(Clone, Copy, PartialEq, Eq, Debug)]
 pub struct Refused {
     pub number: u8,
 }
 
-// What a call's code says.
+// What a call's code says. A code has 32 bits, so that the number has 8: `u8::try_from` would have an error that never comes.
 pub fn answer(code: u32) -> Result<u32, Refused>
     ensures { Answers code result }
 {

@@ -1,5 +1,6 @@
 // The register pane: a row for each register and for what else a controller holds.
-// Every number is looked up in the image at the moment that the row is made.
+// Every number is looked up in the image at the moment that the row is made. The image stays a slice: a struct around it would hold the same
+// slice and find the same places in it.
 ghost use Rattle.std.specs.Prelude.{◌≡◌, [], ◌%◌, ◌<◌, ◌≤◌, cond, eqb, min, length, take};
 ghost use Rattle.image.specs.Layout.{image_size, kind, place_of, transfer_exp};
 ghost use Rattle.pane.specs.Answers.{refused_as};
@@ -16,6 +17,7 @@ use text::bytes::byte;
 use text::line::Line;
 use transfer::TransferType;
 
+// A row is its number, since whoever shows a pane goes through them in order.
 pub const ROWS: usize = 24;
 
 // The registers that a row spells out, the low byte of a pair.
@@ -32,6 +34,9 @@ const LENGTH: usize = layout::REGISTERS + 7;
 const INTERRUPT_MASK: usize = layout::REGISTERS + 9;
 
 const ADDRESS_CONTROL: usize = layout::REGISTERS + 10;
+
+// Numbers of two, three and four bytes: each is one `from_le_bytes`, of its own type, and as one function of the width they would be longer.
+// That a place is inside an image is asked, since `i + 1` may not pass the largest number; every caller gives a place of `layout`.
 
 // Two bytes, low byte first.
 fn word(s: &[u8], i: usize) -> u16
@@ -64,19 +69,21 @@ pub fn copied(image: &[u8]) -> [u8; layout::IMAGE_BYTES]
     image.try_into().unwrap_or([255; layout::IMAGE_BYTES])
 }
 
-// What a register holds.
+// What a register holds. Each 0 stands for what no row shows: of a refused image no register is shown, and what is accepted has 8 bits.
 fn held(image: &[u8], register: u8) -> u8
     ensures { result ≡ rows_held image.now register }
 {
-    (reu::reu_debug_register(image, u64::from(register)) % 256) as u8
+    let value = answer(reu::reu_debug_register(image, u64::from(register))).unwrap_or(0);
+    u8::try_from(value).unwrap_or(0)
 }
 
-// What a read of the register would give, found on a copy: the machine is not touched.
+// What a read of the register would give, found on a copy: the machine is not touched. The zeros are as in `held`.
 fn read_gives(image: &[u8], register: u8) -> u8
     ensures { result ≡ reads image.now register }
 {
     let mut copy = copied(image);
-    (reu::reu_read(&mut copy, u16::from(register)) % 256) as u8
+    let value = answer(reu::reu_read(&mut copy, u16::from(register))).unwrap_or(0);
+    u8::try_from(value).unwrap_or(0)
 }
 
 // ---- the registers
@@ -105,8 +112,7 @@ fn register_name(register: u8) -> &'static [u8]
 fn name(register: u8) -> Line
     ensures { text_of result ≡ [] ⊕ ascii "DF0" ⊕ hex_of 1 register ⊕ register_name register }
 {
-    Line::new()
-        .text(b"DF0")
+    Line::from(b"DF0")
         .hex(1, u32::from(register))
         .text(register_name(register))
 }
@@ -202,7 +208,8 @@ fn flags_row(image: &[u8], row: usize) -> Line
 
 // ---- the size of the storage
 
-// By the code that stands above the two bits of the swap rules.
+// By the code that stands above the two bits of the swap rules. `image` has the same three arms for what it opens, in a function of its own: a public
+// one for three arms would be no plainer.
 #[tactic(auto, unfolding(crate::specs::Rows::size_in))]
 pub fn size_in(image: &[u8]) -> u32
     ensures value { result ≡ size_in image.now }
@@ -218,7 +225,7 @@ pub fn size_in(image: &[u8]) -> u32
 }
 
 // How many of some bytes are the storage that the image sets: the first of them, and never more than there are. The last two facts are
-// those that `&bytes[..n]` asks.
+// those that `&bytes[..n]` asks. `as usize` widens: std has no `From<u32>` for it.
 pub fn lent(image: &[u8], bytes: &[u8]) -> usize
     ensures value { result ≡ min (size_in image.now) (length bytes.now) }
     ensures upper_bound { result ≤ length bytes.now }
@@ -231,8 +238,7 @@ pub fn lent(image: &[u8], bytes: &[u8]) -> usize
 fn storage_row(image: &[u8]) -> Line
     ensures { text_of result ≡ storage_row image.now }
 {
-    Line::new()
-        .text(b"storage      ")
+    Line::from(b"storage      ")
         .digits(u64::from(size_in(image) / 1024))
         .text(b" KiB")
 }
@@ -258,8 +264,7 @@ fn granted_row(image: &[u8]) -> Line
     ensures { text_of result ≡ granted_row image.now }
 {
     let count = granted(image);
-    let line = Line::new()
-        .text(b"granted      ")
+    let line = Line::from(b"granted      ")
         .decimal(u64::from(count))
         .text(b" cycles");
     if count == u32::MAX {
@@ -281,7 +286,7 @@ fn running_type(image: &[u8]) -> TransferType
 fn transfer_row(image: &[u8]) -> Line
     ensures { text_of result ≡ transfer_row image.now }
 {
-    let line = Line::new().text(b"transfer     ");
+    let line = Line::from(b"transfer     ");
     if byte(image, layout::TRANSFER) == 0 {
         return line.text(b"none");
     }
@@ -302,8 +307,7 @@ fn remaining(image: &[u8]) -> u32
 fn place_row(c64: u32, expansion: u32, left: u32) -> Line
     ensures { text_of result ≡ [] ⊕ ascii "  at         c64 " ⊕ hex_of 4 c64 ⊕ ascii " exp " ⊕ hex_of 6 expansion ⊕ ascii " left " ⊕ hex_of 5 left }
 {
-    Line::new()
-        .text(b"  at         c64 ")
+    Line::from(b"  at         c64 ")
         .hex(4, c64)
         .text(b" exp ")
         .hex(6, expansion)
@@ -340,7 +344,7 @@ fn running_row(image: &[u8], row: usize) -> Line
 
 // ---- any of them
 
-// What the controller holds; rows 20 on are empty where no command runs. A row is its number, since whoever shows a pane goes through them in order.
+// What the controller holds; rows 20 on are empty where no command runs. `row as u8` is at most 10.
 #[tactic(auto, unfolding(crate::specs::Rows::held_row))]
 fn held_row(image: &[u8], row: usize) -> Line
     ensures { text_of result ≡ held_row image.now row }

@@ -1,4 +1,8 @@
 // The visible counters, the interrupt, and what the end of a command leaves.
+//
+// The registers are an array, as in an image and in the definitions: each function takes bytes of it by their numbers, and would first open a struct
+// around it. Two addresses and a length are three parameters: the two callers have them as fields of records that differ, and would make a struct
+// only to have it taken apart here.
 ghost use Rattle.std.specs.Prelude.{◌≡◌};
 ghost use Rattle.regs.specs.FinishDma.{autoloaded, counters, finished, irq_due, marked};
 

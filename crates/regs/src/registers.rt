@@ -9,7 +9,7 @@ use crate::constants::{
 };
 
 // A byte of a shadow is replaced by a mask and a shift. A shadow of 16 bits stays one. Three functions, since a bank has nothing above it:
-// one with the byte's place as a parameter would test for that.
+// one with the byte's place as a parameter would test for that, and ask that its shift is small.
 
 #[tactic(auto, using(crate::proofs::Laws::lowest_replaced))]
 pub fn with_low(n: u32, v: u8) -> u32
@@ -40,7 +40,7 @@ pub fn register_index(addr: u16) -> usize
     usize::from(addr & REGISTER_INDEX_MASK)
 }
 
-// A register's byte as it is kept and read: what is not connected is 1.
+// A register's byte as it is kept and read: what is not connected is 1. By the register's number, as its address has it.
 pub fn shown(index: usize, value: u8) -> u8
     ensures { result ≡ shown index value }
 {

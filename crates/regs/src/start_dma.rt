@@ -1,4 +1,4 @@
-// The transfer that the registers ask for.
+// The transfer that the registers ask for, which are an array here too (see finish_dma).
 ghost use Rattle.std.specs.Prelude.{◌≡◌};
 ghost use Rattle.transfer.specs.Bytes.{long, word};
 ghost use Rattle.transfer.specs.Dma.{length_of};

@@ -1,5 +1,10 @@
 -- What a call of each family is, by what opening the image i gave: a refusal, or a controller u.
-use Rattle.std.proofs.Common.{◌≡◌, ℕ, true, List, sym, ap, ◌∙◌, subst, refl, arith, ne_eqb, Bool, cond, Fits, w8}
+use Rattle.std.proofs.Common.{◌≡◌, ℕ, true, false, List, length, sym, ap, ◌∙◌, subst, refl, arith, eqb, eqb-true, ne_eqb, Bool, cond, Fits, w8}
+use borrow.Author.Tests.{eqb-false}
+use Rattle.controller.specs.Enable.{new_reu}
+use Rattle.image.specs.Open.{store_image}
+use Rattle.image.proofs.Opening.{store_good, store_other}
+use Rattle.image.proofs.SoundCalls.{sound_new}
 use Rattle.std.specs.Prelude.{Result, Ok, Err, get_or}
 use Rattle.controller.specs.declared.refusals.Refusal.{Refusal}
 use Rattle.controller.specs.declared.reu.Answered.{Answered}
@@ -14,11 +19,10 @@ use Rattle.image.specs.Valid.{Bytes, Typed}
 use Rattle.image.proofs.Opening.{opened_long, opened_is}
 use Rattle.image.proofs.Sound.{Sound}
 use Rattle.image.proofs.Valid.{open_sound, sound_typed, sound_well}
-use Rattle.image.specs.Layout.{pack_image}
-use Rattle.reu.specs.Exports.{refusal, code, image_after, changed, changed_storage, changed_both, look, change, change_storage, change_both}
+use Rattle.image.specs.Layout.{image_size, pack_image}
+use Rattle.reu.specs.Exports.{refusal, reu_new, code, image_after, changed, changed_storage, changed_both, look, change, change_storage, change_both}
 use Rattle.controller.specs.Refusals.{well_formed}
 use Rattle.reu.specs.Inner.{value_of, ended, Kept, Left}
-use Rattle.reu.proofs.Wholes.{Whole}
 
 -- the bytes of a slice are bytes
 pub bytes_of : (s : List ℕ) → ((j : ℕ) → Fits w8 (get_or s j 0)) → Bytes s
@@ -98,16 +102,27 @@ module _ (i : List ℕ) where
     pub sound : Bytes i → Sound u
     sound b = subst (λ (y : Opened). Sound y.reu) (sym (h ∙ opened_is i (sym accepted))) (open_sound i b (sym accepted))
 
-    whole_kept : (r : Result (Answered ℕ) Refusal) → Whole (answer_of u r) → Kept r i
-    whole_kept (Ok a) w = (w, opened_long i (sym accepted))
-    whole_kept (Err e) w = tt
-
-    pub kept : (r : Result (Answered ℕ) Refusal) (a : Answer) → answer_of u r ≡ a → ((j : ℕ) → Fits w8 (get_or i j 0)) → (Sound u → Whole a) → Kept r i
-    kept r a e b w = whole_kept r (subst Whole (sym e) (w (sound (bytes_of i b))))
-
     left_kept : (r : Result (Answered ℕ) Refusal) → Left r → Kept r i
     left_kept (Ok a) w = (w, opened_long i (sym accepted))
     left_kept (Err e) w = tt
 
     pub kept_by : (r : Result (Answered ℕ) Refusal) → ((j : ℕ) → Fits w8 (get_or i j 0)) → (Typed u → well_formed u ≡ true → Left r) → Kept r i
     kept_by r b w = let s = sound (bytes_of i b) in left_kept r (w (sound_typed u s) (sound_well u s))
+
+-- ---- a new image
+
+new_well : well_formed new_reu ≡ true
+new_well = sound_well new_reu sound_new
+
+-- storing a new controller is making a new image: the refusal as a call answers it
+abbrev pub coded : (ℕ × List ℕ) → (ℕ × List ℕ)
+coded x = (refusal x.0, x.1)
+
+pub stored_new : (i : List ℕ) → coded (store_image new_reu i) ≡ reu_new i
+unfolding reu_new
+stored_new i = go (eqb (length i) image_size) refl
+  where
+    go : (b : Bool) → eqb (length i) image_size ≡ b
+        → coded (store_image new_reu i) ≡ cond b (0, pack_image new_reu) (refusal 1, i)
+    go true e = ap coded (store_good new_reu i (eqb-true (length i) image_size e) new_well)
+    go false e = ap coded (store_other new_reu i (eqb-false (length i) image_size e))

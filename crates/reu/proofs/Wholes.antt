@@ -1,4 +1,4 @@
--- What each call on a sound controller leaves: a controller that can be stored.
+-- What each call on a sound controller answers: a refusal carries value 0, and the controller that is left can be stored.
 use Prim.Native.Nat.{ℕ, ◌<◌}
 use mathlib.Core.Bool.{Bool, true, false}
 use mathlib.Core.Path.{◌≡◌, refl}
@@ -14,23 +14,29 @@ use Rattle.controller.specs.StartDma.{trigger_ff00}
 use Rattle.controller.specs.BusAction.{bus_action, cpu_ready_after_dma}
 use Rattle.controller.specs.TickDma.{Ticked, quiet_step, tick_dma}
 use Rattle.controller.specs.Cycle.{run_reu_cycle}
-use Rattle.controller.specs.Calls.{numbered, answered, refused, reset_call, set_size_call, set_enabled_call, trigger_call, read_call, write_call, bus_action_call, cpu_ready_call, tick_call, cycle_call}
-use Rattle.controller.proofs.Checked.{size_accepted}
+use Rattle.controller.specs.Calls.{numbered, answered, refused, reset_call, set_size_call, set_enabled_call, storage_present_call, capacity_bytes_call, trigger_call, read_call, write_call, dma_active_call, bus_action_call, cpu_ready_call, debug_register_call, c64_access_call, tick_call, cycle_call}
+use Rattle.controller.proofs.Checked.{size_accepted, tick_accepted, cycle_accepted}
 use Rattle.transfer.proofs.Pick.{by_test}
 use Rattle.image.specs.Valid.{Bytes}
 use Rattle.image.proofs.Sound.{Sound}
 use Rattle.image.proofs.SoundCalls.{SoundState, bytes_memory, sound_fresh, sound_size, sound_trigger, sound_read, sound_write, sound_next, sound_switch, sound_tick_dma, sound_cycle}
 use Rattle.image.proofs.Valid.{sound_well}
 
-abbrev pub Whole : Answer → Type 0
-Whole a = well_formed a.reu ≡ true
+-- "A refusal has value 0"
+pub record Carried (a : Answer) : Type 0 where
+  pub value : (a.refusal ≡ 0 → ⊥) → a.value ≡ 0
+
+-- and what is left can be stored in the image
+pub record Whole (a : Answer) : Type 0 where
+  pub carried : Carried a
+  pub well : well_formed a.reu ≡ true
 
 module _ (u : Reu) (s : Sound u) where
   not_done : (n : ℕ) → Whole (refused u n)
-  not_done n = sound_well u s
+  not_done n = record { carried = record { value = λ ne. refl }; well = sound_well u s }
 
   done : (v : ℕ) (w : Reu) → Sound w → Whole (answered v w)
-  done v w h = sound_well w h
+  done v w h = record { carried = record { value = λ ne. absurd (ne refl) }; well = sound_well w h }
 
   -- tested for the refusal n; the answer stands in what is answered and left
   tested : {A : Type 0} (f : A → Answer) (n : ℕ) (r : ℕ → A) (d : A) → ((k : ℕ) → Whole (f (r k))) → Whole (f d)
@@ -45,10 +51,33 @@ module _ (u : Reu) (s : Sound u) where
       → Whole (checked {A = Answer × List ℕ} n (λ k. (refused u k, t)) (answered v w, l)).0
   with_storage n v w t l h = tested (λ (x : Answer × List ℕ). x.0) n (λ k. (refused u k, t)) (answered v w, l) not_done (done v w h)
 
-  with_both : (n : ℕ) (x : Ticked) (m t : List ℕ) → Sound x.0.reu
+  with_both : (n : ℕ) (x : Ticked) (m t : List ℕ) → x.0.refusal ≡ 0 → Sound x.0.reu
       → Whole (numbered (checked {A = Ticked} n (λ k. (quiet_step k false u, m, t)) x).0)
-  with_both n x m t h =
-      tested (λ (y : Ticked). numbered y.0) n (λ k. (quiet_step k false u, m, t)) x not_done (sound_well x.0.reu h)
+  with_both n x m t z h =
+      tested (λ (y : Ticked). numbered y.0) n (λ k. (quiet_step k false u, m, t)) x not_done
+      record { carried = record { value = λ ne. absurd (ne z) }; well = sound_well x.0.reu h }
+
+  -- ---- a look
+
+  pub storage_present_whole : Whole (storage_present_call u)
+  unfolding storage_present_call
+  storage_present_whole = alone _ _ u s
+
+  pub capacity_whole : Whole (capacity_bytes_call u)
+  unfolding capacity_bytes_call
+  capacity_whole = alone _ _ u s
+
+  pub dma_active_whole : Whole (dma_active_call u)
+  unfolding dma_active_call
+  dma_active_whole = alone _ _ u s
+
+  pub debug_whole : (i : ℕ) → Whole (debug_register_call u i)
+  unfolding debug_register_call
+  debug_whole i = alone _ _ u s
+
+  pub c64_access_whole : Whole (c64_access_call u)
+  unfolding c64_access_call
+  c64_access_whole = alone _ _ u s
 
   -- ---- a change
 
@@ -99,9 +128,9 @@ module _ (u : Reu) (s : Sound u) where
 
       pub tick_whole : (n : ℕ) (low : Bool) → Whole (numbered (tick_call u m t n low).0)
       unfolding tick_call
-      tick_whole n low = with_both _ (tick_dma u m t n low) _ _ (sound_tick_dma Bytes Bytes bytes_memory bytes_memory u m t state n low).sound
+      tick_whole n low = with_both _ (tick_dma u m t n low) _ _ (tick_accepted u m t n low) (sound_tick_dma Bytes Bytes bytes_memory bytes_memory u m t state n low).sound
 
       pub cycle_whole : (high phi1 : Bool) (n : ℕ) (low : Bool) → Whole (numbered (cycle_call u m t high phi1 n low).0)
       unfolding cycle_call
       cycle_whole high phi1 n low =
-          with_both _ (run_reu_cycle u m t high phi1 n low) _ _ (sound_cycle Bytes Bytes bytes_memory bytes_memory u m t state high phi1 n low).sound
+          with_both _ (run_reu_cycle u m t high phi1 n low) _ _ (cycle_accepted u m t high phi1 n low) (sound_cycle Bytes Bytes bytes_memory bytes_memory u m t state high phi1 n low).sound

@@ -1,13 +1,15 @@
 // The exported calls: a controller by its image, and the bus and the storage that the host lends.
 // Each answers a value, or 16,777,216 times a refusal number, and then nothing that is lent has changed.
+// Names, flags as numbers, and bus and storage as two slices are as include/reu.h gives them to C.
 #![tactic(auto)]
 
-ghost use Rattle.std.specs.Prelude.{◌≡◌};
+ghost use Rattle.std.specs.Prelude.{◌≡◌, ℕ, List};
 ghost use Rattle.controller.specs.Answers.{Answer, answer_of, refusal_number, step_answer_of};
 ghost use Rattle.controller.specs.Calls.{numbered};
+ghost use Rattle.controller.specs.TickDma.{Ticked};
 ghost use Rattle.controller.specs.declared.reu.Reu.{Reu};
-ghost use Rattle.reu.specs.Exports.{change, look, refusal, reu_bus_action, reu_c64_access, reu_capacity_bytes, reu_cpu_ready, reu_cycle, reu_debug_register, reu_dma_active, reu_new, reu_read, reu_reset, reu_set_enabled, reu_set_size, reu_storage_present, reu_tick_dma, reu_trigger_ff00, reu_write};
-ghost use Rattle.reu.specs.Inner.{Gives, Keeps, Kept, ended, value_of};
+ghost use Rattle.reu.specs.Exports.{change, change_both, change_storage, look, refusal, reu_bus_action, reu_c64_access, reu_capacity_bytes, reu_cpu_ready, reu_cycle, reu_debug_register, reu_dma_active, reu_new, reu_read, reu_reset, reu_set_enabled, reu_set_size, reu_storage_present, reu_tick_dma, reu_trigger_ff00, reu_write};
+ghost use Rattle.reu.specs.Inner.{Gives, GivesBoth, GivesStored, Keeps, KeepsBoth, KeepsStored, Kept, ended, value_of};
 
 use controller::{Answered, Refusal, Reu, Step};
 
@@ -20,7 +22,8 @@ fn refused(reason: Refusal) -> u32
     REFUSAL_UNIT * u32::from(reason)
 }
 
-// A call that looks at the controller of an image.
+// A call that looks at the controller of an image. That a closure may be called is asked here and below: no type says it.
+#[tactic(auto, using(crate::proofs::Families::look_done))]
 fn look<F: FnOnce(Reu) -> Result<Answered<u32>, Refusal>>(image: &[u8], call: F) -> u32
     requires { F.IsAlwaysCallable call }
     ensures { (f : Reu → Answer) → Gives F.post call f → result ≡ look f image.now }
@@ -31,8 +34,8 @@ fn look<F: FnOnce(Reu) -> Result<Answered<u32>, Refusal>>(image: &[u8], call: F)
     }
 }
 
-// A call that changes the controller of an image, which is laid down again. The four calls that lend bus or storage open the image themselves:
-// what a closure writes in what it captured is not in its contract.
+// A call that changes the controller of an image, which is laid down again.
+#[tactic(auto, using(crate::proofs::Families::kept_by))]
 fn change<F: FnOnce(Reu) -> Result<Answered<u32>, Refusal>>(image: &mut [u8], call: F) -> u32
     requires callable { F.IsAlwaysCallable call }
     requires keeps { Keeps F.post call }
@@ -40,6 +43,42 @@ fn change<F: FnOnce(Reu) -> Result<Answered<u32>, Refusal>>(image: &mut [u8], ca
 {
     match image::open(image) {
         Ok(reu) => finish(image, call(reu)),
+        Err(reason) => refused(reason),
+    }
+}
+
+// The same of a call that is lent the storage too. It is handed on to the call: after the call of a generic function nothing is known of
+// what its closure wrote in what it captured. Tried as one helper with a type parameter for what is lent, also nothing: the proof did not
+// close, since a value of such a type has no `.old` and no `.new`, so that the contract cannot say what a slice ends as.
+#[tactic(auto, using(crate::proofs::Families::kept_by))]
+fn change_storage<F: FnOnce(Reu, &mut [u8]) -> Result<Answered<u32>, Refusal>>(
+    image: &mut [u8],
+    storage: &mut [u8],
+    call: F,
+) -> u32
+    requires callable { F.IsAlwaysCallable call }
+    requires keeps { KeepsStored F.post call }
+    ensures { (f : Reu → List ℕ → (Answer × List ℕ)) → GivesStored F.post call f → (result, image.new, storage.new) ≡ change_storage f image.old storage.old }
+{
+    match image::open(image) {
+        Ok(reu) => finish(image, call(reu, storage)),
+        Err(reason) => refused(reason),
+    }
+}
+
+// And of one that is lent bus and storage.
+fn change_both<F: FnOnce(Reu, &mut [u8], &mut [u8]) -> Result<Answered<Step>, Refusal>>(
+    image: &mut [u8],
+    bus: &mut [u8],
+    storage: &mut [u8],
+    call: F,
+) -> u32
+    requires callable { F.IsAlwaysCallable call }
+    requires keeps { KeepsBoth F.post call }
+    ensures { (f : Reu → List ℕ → List ℕ → Ticked) → GivesBoth F.post call f → (result, image.new, bus.new, storage.new) ≡ change_both f image.old bus.old storage.old }
+{
+    match image::open(image) {
+        Ok(reu) => finish(image, numbered(call(reu, bus, storage))),
         Err(reason) => refused(reason),
     }
 }
@@ -77,6 +116,7 @@ fn numbered(answer: Result<Answered<Step>, Refusal>) -> Result<Answered<u32>, Re
     answer.map(Answered::from)
 }
 
+#[tactic(auto, using(crate::proofs::Families::stored_new))]
 #[unsafe(no_mangle)]
 pub extern "C" fn reu_new(image: &mut [u8]) -> u32
     ensures { (result, image.new) ≡ reu_new image.old }
@@ -107,10 +147,11 @@ pub extern "C" fn reu_set_size(image: &mut [u8], size: u64) -> u32
 pub extern "C" fn reu_set_enabled(image: &mut [u8], storage: &mut [u8], enabled: u32) -> u32
     ensures { (result, image.new, storage.new) ≡ reu_set_enabled image.old storage.old enabled }
 {
-    match image::open(image) {
-        Ok(reu) => finish(image, reu.set_enabled(storage, enabled != 0)),
-        Err(reason) => refused(reason),
-    }
+    change_storage(
+        image,
+        storage,
+        |reu, storage| reu.set_enabled(storage, enabled != 0),
+    )
 }
 
 #[unsafe(no_mangle)]
@@ -168,13 +209,9 @@ pub extern "C" fn reu_bus_action(
 ) -> u32
     ensures { (result, image.new, storage.new) ≡ reu_bus_action image.old storage.old ba_high ba_high_phi1 cycle }
 {
-    match image::open(image) {
-        Ok(reu) => finish(
-            image,
-            reu.bus_action(storage, ba_high != 0, ba_high_phi1 != 0, cycle),
-        ),
-        Err(reason) => refused(reason),
-    }
+    change_storage(image, storage, |reu, storage| {
+        reu.bus_action(storage, ba_high != 0, ba_high_phi1 != 0, cycle)
+    })
 }
 
 #[tactic(auto, using(crate::proofs::Keeping::cpu_ready_keeps))]
@@ -209,13 +246,9 @@ pub extern "C" fn reu_tick_dma(
 ) -> u32
     ensures { (result, image.new, bus.new, storage.new) ≡ reu_tick_dma image.old bus.old storage.old cycle ba_low }
 {
-    match image::open(image) {
-        Ok(reu) => finish(
-            image,
-            numbered(reu.tick_dma(bus, storage, cycle, ba_low != 0)),
-        ),
-        Err(reason) => refused(reason),
-    }
+    change_both(image, bus, storage, |reu, bus, storage| {
+        reu.tick_dma(bus, storage, cycle, ba_low != 0)
+    })
 }
 
 #[unsafe(no_mangle)]
@@ -230,13 +263,9 @@ pub extern "C" fn reu_run_reu_cycle(
 ) -> u32
     ensures { (result, image.new, bus.new, storage.new) ≡ reu_cycle image.old bus.old storage.old ba_high cycle ba_low ba_high_phi1 }
 {
-    match image::open(image) {
-        Ok(reu) => {
-            let high = ba_high != 0;
-            let high_phi1 = ba_high_phi1 != 0;
-            let answer = reu.run_reu_cycle(bus, storage, high, high_phi1, cycle, ba_low != 0);
-            finish(image, numbered(answer))
-        }
-        Err(reason) => refused(reason),
-    }
+    let high = ba_high != 0;
+    let high_phi1 = ba_high_phi1 != 0;
+    change_both(image, bus, storage, |reu, bus, storage| {
+        reu.run_reu_cycle(bus, storage, high, high_phi1, cycle, ba_low != 0)
+    })
 }

@@ -1,6 +1,6 @@
-// The exported calls of libreu.a, as include/reu.h documents them. A static library is the library of no other crate, so the calls
-// stand in `reu`, for callers in Rattle, and here once more, for C: each hands what it is given to the call of its name and
-// promises what that one promises.
+// The exported calls of libreu.a, with the names, numbers and buffers that include/reu.h documents. A static library is the library
+// of no other crate, so the calls stand in `reu`, for callers in Rattle, and here once more, for C: each hands what it is given to the
+// call of its name and promises what that one promises.
 #![tactic(auto)]
 
 ghost use Rattle.std.specs.Prelude.{◌≡◌};

@@ -3,15 +3,17 @@ use Rattle.std.specs.Prelude.{ℕ, ◌+◌, Bool, true, false, cond, ◌&&◌, L
 use Rattle.transfer.specs.Bytes.{bit_of}
 use Rattle.script.specs.declared.rows.Line.{Line}
 use Rattle.script.specs.declared.rows.Row.{Row}
-use Rattle.script.specs.declared.rows.Row.TheVariants.{Case}
+use Rattle.script.specs.declared.rows.Row.TheVariants.{Case, CaseWhere}
 use Rattle.script.specs.Lent.{Lent}
 use Rattle.script.specs.Operations.{Played, and_then, row_of}
+use Rattle.script.specs.Rows.{number_of}
 
 -- ---- the rows of a line
 
--- a case is one of the line's if its number is that of the line's table. It decides for the rows after it
+-- a case is one of the line's if its number is that of the line's table, or if its two numbers are equal. It decides for the rows after it
 abbrev pub is_on : Line → Bool → Row → Bool
 is_on l before (Case n) = eqb n l.0
+is_on l before (CaseWhere a v) = eqb (number_of l a) (number_of l v)
 is_on l before _ = before
 
 -- of rows, those in the cases of the line, by whether the row before them was in one

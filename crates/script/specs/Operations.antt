@@ -1,7 +1,6 @@
 -- What a row does: l is the line that it is played for, a its place, v its value, i the image, m a memory, s all that is lent.
 -- A row agrees if each call in it answers what it should.
 use Rattle.std.specs.Prelude.{ℕ, zero, suc, ◌+◌, ◌*◌, ◌/◌, ◌%◌, Bool, true, false, cond, ◌&&◌, List, eqb, ltb, length, get_or, set}
-use Rattle.transfer.specs.declared.timing.ReuBusAction.{ReuBusAction}
 use Rattle.transfer.specs.declared.timing.ReuBusAction.TheVariants.{Transfer}
 use Rattle.transfer.specs.Bytes.{bit, bit_of}
 use Rattle.transfer.specs.Timing.{action_number}
@@ -10,9 +9,9 @@ use Rattle.reu.specs.Exports.{refusal_unit, reu_bus_action, reu_cycle, reu_debug
 use Rattle.script.specs.declared.rows.Inputs.{Inputs}
 use Rattle.script.specs.declared.rows.Line.{Line}
 use Rattle.script.specs.declared.rows.Row.{Row}
-use Rattle.script.specs.declared.rows.Row.TheVariants.{Case, New, Reset, Ff00, Write, WritePair, Expansion, Reads, Shows, ShowsPair, LevelIs, Size, Bus, BusIs, Storage, StorageIs, Enable, Ticks, Idle, Answers, Grants}
+use Rattle.script.specs.declared.rows.Row.TheVariants.{Case, CaseWhere, New, Reset, Ff00, Write, WritePair, Expansion, Reads, Shows, ShowsPair, LevelIs, Size, Bus, BusIs, Storage, StorageIs, Enable, Ticks, Idle, Answers, Grants}
 use Rattle.script.specs.Lent.{Lent}
-use Rattle.script.specs.Rows.{number_of}
+use Rattle.script.specs.Rows.{grant_of, number_of}
 
 -- whether it agrees, and what it leaves of the one buffer that it changes
 abbrev pub OnOne : Type 0
@@ -52,9 +51,9 @@ write_row a v i = cond (ltb a 65536 && ltb v 256) (answers 0 (reu_write i a v)) 
 abbrev pub write_pair_row : ℕ → ℕ → List ℕ → OnOne
 write_pair_row a v i = and_then (write_row a (v % 256) i) (write_row (a + 1) (v / 256))
 
--- all 24 bits of the expansion address, the bank last
-abbrev pub expansion_row : ℕ → List ℕ → OnOne
-expansion_row v i = and_then (write_pair_row 0xDF04 (v % 65536) i) (write_row 0xDF06 (v / 65536))
+-- all 24 bits of the expansion address: the place is the bank, which is written last
+abbrev pub expansion_row : ℕ → ℕ → List ℕ → OnOne
+expansion_row a v i = and_then (write_pair_row 0xDF04 v i) (write_row 0xDF06 a)
 
 -- a read of the address gives the value
 unfoldable pub reads_row : ℕ → ℕ → List ℕ → OnOne
@@ -114,31 +113,32 @@ play_cycles inputs answer (suc k) n x =
 abbrev pub cycles_row : Inputs → (answer : ℕ) → ℕ → ℕ → Lent → Played
 cycles_row inputs answer k n s = play_cycles inputs answer k n (true, s)
 
--- after a grant: it is the row's; on Transfer `tick_dma` follows, and is not refused
-unfoldable pub tick_row : ℕ → ReuBusAction → Lent → (ℕ × List ℕ × List ℕ) → Played
-tick_row n grant s g =
-    let agree : Bool = eqb g.0 (action_number grant) in
+-- after a grant: it is the value; on Transfer `tick_dma` follows, and is not refused
+unfoldable pub tick_row : ℕ → ℕ → Lent → (ℕ × List ℕ × List ℕ) → Played
+tick_row n v s g =
+    let agree : Bool = eqb g.0 v in
     let y : (ℕ × List ℕ × List ℕ × List ℕ) = reu_tick_dma g.1 s.bus g.2 n 0 in
     cond (eqb g.0 (action_number Transfer))
     (agree && ltb y.0 refusal_unit, record s { image = y.1; bus = y.2; storage = y.3 })
     (agree, record s { image = g.1; storage = g.2 })
 
--- cycle n in two calls: `bus_action` answers the grant
-abbrev pub grant_row : Inputs → ℕ → ReuBusAction → Lent → Played
-grant_row inputs n grant s =
-    tick_row n grant s (reu_bus_action s.image s.storage (bit_of inputs.ba_high) (bit_of inputs.ba_high_phi1) n)
+-- cycle n in two calls: `bus_action` answers the value
+abbrev pub grant_row : Inputs → ℕ → ℕ → Lent → Played
+grant_row inputs n v s =
+    tick_row n v s (reu_bus_action s.image s.storage (bit_of inputs.ba_high) (bit_of inputs.ba_high_phi1) n)
 
 -- ---- any row
 
 -- by its operation, as the type of rows says what each does
 unfoldable pub row_of : Line → Row → Lent → Played
 row_of l (Case n) s = begin_row s
+row_of l (CaseWhere a v) s = begin_row s
 row_of l New s = on_image (answers 0 (reu_new s.image)) s
 row_of l Reset s = on_image (answers 0 (reu_reset s.image 0)) s
 row_of l Ff00 s = on_image (answers 0 (reu_trigger_ff00 s.image)) s
 row_of l (Write a v) s = on_image (write_row (number_of l a) (number_of l v) s.image) s
 row_of l (WritePair a v) s = on_image (write_pair_row (number_of l a) (number_of l v) s.image) s
-row_of l (Expansion v) s = on_image (expansion_row (number_of l v) s.image) s
+row_of l (Expansion a v) s = on_image (expansion_row (number_of l a) (number_of l v) s.image) s
 row_of l (Reads a v) s = on_image (reads_row (number_of l a) (number_of l v) s.image) s
 row_of l (Shows a v) s = (is_shown (number_of l a) (number_of l v) s.image, s)
 row_of l (ShowsPair a v) s = (is_pair_shown (number_of l a) (number_of l v) s.image, s)
@@ -152,4 +152,4 @@ row_of l Enable s = enable_row s
 row_of l (Ticks inputs a v) s = cycles_row inputs 1 (number_of l v) (number_of l a) s
 row_of l (Idle inputs a v) s = cycles_row inputs 0 (number_of l v) (number_of l a) s
 row_of l (Answers inputs a v) s = cycle_row inputs (number_of l v) (number_of l a) s
-row_of l (Grants inputs a grant) s = grant_row inputs (number_of l a) grant s
+row_of l (Grants inputs a grant) s = grant_row inputs (number_of l a) (grant_of l grant) s

@@ -1,5 +1,8 @@
--- The numbers of a row, with the columns of a line filled in.
+-- The numbers and the grant of a row, with the columns of a line filled in.
 use Rattle.std.specs.Prelude.{ℕ, ◌+◌, get_or}
+use Rattle.transfer.specs.Timing.{action_number}
+use Rattle.script.specs.declared.rows.Grant.{Grant}
+use Rattle.script.specs.declared.rows.Grant.TheVariants.{Is, Numbered}
 use Rattle.script.specs.declared.rows.Line.{Line}
 use Rattle.script.specs.declared.rows.Number.{Number}
 use Rattle.script.specs.declared.rows.Number.TheVariants.{Just, Column, Plus}
@@ -13,3 +16,8 @@ abbrev pub number_of : Line → Number → ℕ
 number_of l (Just n) = n
 number_of l (Column k) = column_of l k
 number_of l (Plus n k) = n + column_of l k
+
+-- the number of a grant: that of the one named, or as it stands
+abbrev pub grant_of : Line → Grant → ℕ
+grant_of l (Is action) = action_number action
+grant_of l (Numbered n) = number_of l n

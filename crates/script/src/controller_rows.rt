@@ -1,4 +1,6 @@
-// Rows on the controller alone.
+// Rows on the controller alone. The exported calls answer numbers, as the C interface has them: 0 says that a call did its work.
+// A row's numbers are below 2^33, so that the one after an address fits. The two rows here that need it ask for what they need: a type of such
+// numbers would be opened again by each of the others, which ask for nothing.
 ghost use Rattle.std.specs.Prelude.{◌≡◌, ◌+◌, ◌<◌, ◌^◌};
 ghost use Rattle.script.specs.Operations.{expansion_row, is_level, reads_row, is_shown, is_pair_shown, write_pair_row, write_row};
 
@@ -23,13 +25,14 @@ pub(crate) fn write_pair(image: &mut [u8], address: u64, value: u64) -> bool
     low & write(image, address + 1, value / 256)
 }
 
-pub(crate) fn write_expansion(image: &mut [u8], value: u64) -> bool
-    ensures { (result, image.new) ≡ expansion_row value image.old }
+pub(crate) fn write_expansion(image: &mut [u8], bank: u64, value: u64) -> bool
+    ensures { (result, image.new) ≡ expansion_row bank value image.old }
 {
-    let low = write_pair(image, 0xDF04, value % 0x1_0000);
-    low & write(image, 0xDF06, value / 0x1_0000)
+    let low = write_pair(image, 0xDF04, value);
+    low & write(image, 0xDF06, bank)
 }
 
+// What a read answers, compared with a number: no equality of a type.
 #[tactic(auto, unfolding(crate::specs::Operations::reads_row))]
 pub(crate) fn reads(image: &mut [u8], address: u64, value: u64) -> bool
     ensures { (result, image.new) ≡ reads_row address value image.old }

@@ -6,11 +6,11 @@ ghost use Rattle.script.specs.Operations.{is_byte, set_byte};
 pub(crate) fn set_byte(memory: &mut [u8], place: u64, value: u64) -> bool
     ensures { (result, memory.new) ≡ set_byte place value memory.old }
 {
-    let i = place as usize;
-    let Ok(value) = u8::try_from(value) else {
+    let (Ok(i), Ok(value)) = (usize::try_from(place), u8::try_from(value)) else {
         return false;
     };
-    // A test and an index: after `get_mut` the search knows nothing of the memory.
+    // Tried as `get_mut`: the proof did not close, since of the slice after it the library says the length, and nothing of
+    // its elements.
     if i < memory.len() {
         memory[i] = value;
         return true;
@@ -22,7 +22,7 @@ pub(crate) fn set_byte(memory: &mut [u8], place: u64, value: u64) -> bool
 pub(crate) fn has_byte(memory: &[u8], place: u64, value: u64) -> bool
     ensures { result ≡ is_byte place value memory.now }
 {
-    memory
-        .get(place as usize)
-        .is_some_and(|byte| u64::from(*byte) == value)
+    usize::try_from(place).is_ok_and(|i| {
+        memory.get(i).is_some_and(|byte| u64::from(*byte) == value)
+    })
 }

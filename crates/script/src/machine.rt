@@ -1,4 +1,4 @@
-// What a script is played on, and how.
+// What a script is played on, and how. The exported calls answer numbers, as the C interface has them: 0 says that a call did its work.
 ghost use Rattle.std.specs.Prelude.{◌≡◌};
 ghost use Rattle.script.specs.Lent.{Plays};
 ghost use Rattle.script.specs.Lines.{is_on, play_line, play_table};
@@ -22,6 +22,7 @@ fn is_on(before: bool, row: &Row, line: &Line) -> bool
 {
     match *row {
         Row::Case(number) => number == line.0,
+        Row::CaseWhere(left, right) => left.filled(line) == right.filled(line),
         _ => before,
     }
 }
@@ -40,7 +41,8 @@ impl Machine<'_> {
         made & self.enable()
     }
 
-    // A machine that is only looked at: what a call looks at behind a `&mut` would be unknown afterwards.
+    // A machine that is only looked at, here and in the next. Tried as `has_byte(self.bus, ..)` in `agrees`: the proof did not close, since what a
+    // call looks at behind a `&mut` is unknown afterwards.
     fn bus_is(&self, place: u64, value: u64) -> bool
         ensures { result ≡ is_byte place value self.now.bus.now }
     {
@@ -60,13 +62,13 @@ impl Machine<'_> {
     {
         let filled = |number: Number| number.filled(line);
         match *row {
-            Row::Case(_) => self.begin(),
+            Row::Case(_) | Row::CaseWhere(_, _) => self.begin(),
             Row::New => reu::reu_new(self.image) == 0,
             Row::Reset => reu::reu_reset(self.image, 0) == 0,
             Row::Ff00 => reu::reu_trigger_ff00(self.image) == 0,
             Row::Write(place, value) => write(self.image, filled(place), filled(value)),
             Row::WritePair(place, value) => write_pair(self.image, filled(place), filled(value)),
-            Row::Expansion(value) => write_expansion(self.image, filled(value)),
+            Row::Expansion(bank, low) => write_expansion(self.image, filled(bank), filled(low)),
             Row::Reads(place, value) => reads(self.image, filled(place), filled(value)),
             Row::Shows(place, value) => self.shows(filled(place), filled(value)),
             Row::ShowsPair(place, value) => self.shows_pair(filled(place), filled(value)),
@@ -84,7 +86,11 @@ impl Machine<'_> {
                 filled(cycle),
                 filled(answer),
             ),
-            Row::Grants(inputs, cycle, grant) => self.grants(inputs, filled(cycle), grant),
+            Row::Grants(inputs, cycle, grant) => self.grants(
+                inputs,
+                filled(cycle),
+                grant.numbered(line),
+            ),
         }
     }
 

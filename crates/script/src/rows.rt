@@ -1,11 +1,11 @@
 // The rows of a script, and the lines for which it is played.
 ghost use Rattle.std.specs.Prelude.{◌≡◌, ◌<◌, ◌^◌};
-ghost use Rattle.script.specs.Rows.{column_of, number_of};
+ghost use Rattle.script.specs.Rows.{column_of, grant_of, number_of};
 
 use transfer::ReuBusAction;
 
-// A line: the number of its table, by which its cases are chosen, and its columns, which a row may take for numbers. A tuple, so
-// that a line of a table is one line of text.
+// A line: the number of its table, by which its cases are chosen, and its columns, which a row may take for numbers. A tuple and no struct with
+// named fields: so a line of a table is one line of text.
 #[derive(Clone, Copy)]
 pub struct Line<'a>(pub u32, pub &'a [u16]);
 
@@ -15,6 +15,14 @@ pub enum Number {
     Just(u32),
     Column(usize),
     Plus(u32, usize),
+}
+
+// A grant in a row: one by its name, or the number that `bus_action` answers for it, which a column may have. A number that it never answers
+// does not agree.
+#[derive(Clone, Copy)]
+pub enum Grant {
+    Is(ReuBusAction),
+    Numbered(Number),
 }
 
 // What a bus cycle finds: whether BA is high, and whether it is at phi 1.
@@ -44,6 +52,8 @@ pub const PHI1_LOW: Inputs = Inputs {
 pub enum Row {
     // A case begins, on a new controller that is enabled. It is played for the lines of the table of its number.
     Case(u32),
+    // A case that is played for the lines for which the two numbers are equal, whatever their table.
+    CaseWhere(Number, Number),
     // A new controller, never enabled.
     New,
     Reset,
@@ -51,8 +61,8 @@ pub enum Row {
     // A write of a byte to an address, or of a low byte to it and of the high byte to the next.
     Write(Number, Number),
     WritePair(Number, Number),
-    // All 24 bits of the expansion address, the bank last.
-    Expansion(Number),
+    // All 24 bits of the expansion address: the bank, which is written last, and the 16 bits below it.
+    Expansion(Number, Number),
     // A read of the address gives the value.
     Reads(Number, Number),
     // `debug_register` gives the value, as one byte or as a low and a high one.
@@ -75,7 +85,7 @@ pub enum Row {
     // One cycle: it answers the value, with what L2 adds to it.
     Answers(Inputs, Number, Number),
     // One cycle in two calls: `bus_action` answers the grant, and `tick_dma` follows on Transfer.
-    Grants(Inputs, Number, ReuBusAction),
+    Grants(Inputs, Number, Grant),
 }
 
 impl Number {
@@ -88,6 +98,18 @@ impl Number {
             Number::Just(number) => u64::from(number),
             Number::Column(k) => u64::from(line.column(k)),
             Number::Plus(number, k) => u64::from(number) + u64::from(line.column(k)),
+        }
+    }
+}
+
+impl Grant {
+    // The number that `bus_action` answers for the grant.
+    pub(crate) fn numbered(self, line: &Line) -> u64
+        ensures { result ≡ grant_of line.now self }
+    {
+        match self {
+            Grant::Is(action) => u64::from(u32::from(action)),
+            Grant::Numbered(number) => number.filled(line),
         }
     }
 }

@@ -2,6 +2,7 @@
 #![tactic(auto)]
 
 use image::layout::IMAGE_BYTES;
+use script::Grant::Is;
 use script::Number::Just;
 use script::ReuBusAction::{Hold, Transfer};
 use script::Row::{
@@ -14,7 +15,7 @@ use script::{
 };
 use std::io;
 
-// Crate script says what each row does. Where a row has two numbers, the first is an address, a register, an offset or a cycle.
+// Crate script says what each row does. Where a row has two numbers, the first is an address, a register, a bank, an offset or a cycle.
 // Unless said: new, enabled, BA high, registers written, then cycle calls, here named ticks.
 // STATUS is looked at by `debug_register` save in R1 and R12.
 const SESSIONS: [Row; 220] = [
@@ -56,7 +57,7 @@ const SESSIONS: [Row; 220] = [
     Case(4),
     Bus(Just(0x1000), Just(0xA5)),
     WritePair(address::C64, Just(0x1000)),
-    Expansion(Just(0)),
+    Expansion(Just(0), Just(0)),
     WritePair(address::LENGTH, Just(1)),
     Write(address::COMMAND, Just(0x90)),
     Ticks(BA_HIGH, Just(0), Just(1)),
@@ -85,7 +86,7 @@ const SESSIONS: [Row; 220] = [
     Bus(Just(0x3000), Just(1)),
     Storage(Just(0), Just(2)),
     WritePair(address::C64, Just(0x3000)),
-    Expansion(Just(0)),
+    Expansion(Just(0), Just(0)),
     WritePair(address::LENGTH, Just(3)),
     Write(address::COMMAND, Just(0x93)),
     Ticks(BA_HIGH, Just(0), Just(1)),
@@ -99,7 +100,7 @@ const SESSIONS: [Row; 220] = [
     Storage(Just(0), Just(2)),
     Storage(Just(1), Just(5)),
     WritePair(address::C64, Just(0x3000)),
-    Expansion(Just(0)),
+    Expansion(Just(0), Just(0)),
     WritePair(address::LENGTH, Just(2)),
     Write(address::COMMAND, Just(0x93)),
     Ticks(BA_HIGH, Just(0), Just(2)),
@@ -115,7 +116,7 @@ const SESSIONS: [Row; 220] = [
     Storage(Just(0), Just(2)),
     Storage(Just(1), Just(5)),
     WritePair(address::C64, Just(0x3000)),
-    Expansion(Just(0)),
+    Expansion(Just(0), Just(0)),
     WritePair(address::LENGTH, Just(2)),
     Write(address::COMMAND, Just(0x93)),
     Ticks(BA_HIGH, Just(0), Just(2)),
@@ -130,7 +131,7 @@ const SESSIONS: [Row; 220] = [
     Bus(Just(0x4000), Just(0x11)),
     Storage(Just(0), Just(0x22)),
     WritePair(address::C64, Just(0x4000)),
-    Expansion(Just(0)),
+    Expansion(Just(0), Just(0)),
     WritePair(address::LENGTH, Just(1)),
     Write(address::COMMAND, Just(0x92)),
     Ticks(BA_HIGH, Just(0), Just(1)),
@@ -149,7 +150,7 @@ const SESSIONS: [Row; 220] = [
     Storage(Just(1), Just(0x22)),
     Storage(Just(2), Just(0x33)),
     WritePair(address::C64, Just(0x5000)),
-    Expansion(Just(0)),
+    Expansion(Just(0), Just(0)),
     WritePair(address::LENGTH, Just(3)),
     Write(address::COMMAND, Just(0x91)),
     Ticks(PHI1_LOW, Just(0), Just(1)),
@@ -167,7 +168,7 @@ const SESSIONS: [Row; 220] = [
     Storage(Just(1), Just(0x22)),
     Storage(Just(2), Just(0x33)),
     WritePair(address::C64, Just(0x5000)),
-    Expansion(Just(0)),
+    Expansion(Just(0), Just(0)),
     WritePair(address::LENGTH, Just(3)),
     Write(address::COMMAND, Just(0x81)),
     Ff00,
@@ -181,7 +182,7 @@ const SESSIONS: [Row; 220] = [
     Case(12),
     Bus(Just(0x1000), Just(0xA5)),
     WritePair(address::C64, Just(0x1000)),
-    Expansion(Just(0)),
+    Expansion(Just(0), Just(0)),
     WritePair(address::LENGTH, Just(1)),
     Write(address::COMMAND, Just(0x90)),
     Ticks(BA_HIGH, Just(0), Just(1)),
@@ -195,7 +196,7 @@ const SESSIONS: [Row; 220] = [
     // R13* Store from $10FF, length 1: C64 $1100; writing 0 to register 2 gives $1000.
     Case(13),
     WritePair(address::C64, Just(0x10FF)),
-    Expansion(Just(0)),
+    Expansion(Just(0), Just(0)),
     WritePair(address::LENGTH, Just(1)),
     Write(address::COMMAND, Just(0x90)),
     Ticks(BA_HIGH, Just(0), Just(1)),
@@ -208,7 +209,7 @@ const SESSIONS: [Row; 220] = [
     Bus(Just(0xFFFF), Just(7)),
     Bus(Just(0x0000), Just(8)),
     WritePair(address::C64, Just(0xFFFF)),
-    Expansion(Just(0xFF_FFFF)),
+    Expansion(Just(0xFF), Just(0xFFFF)),
     WritePair(address::LENGTH, Just(2)),
     Write(address::COMMAND, Just(0x90)),
     Answers(BA_HIGH, Just(0), Just(7)),
@@ -240,14 +241,14 @@ const SESSIONS: [Row; 220] = [
     Bus(Just(0x4000), Just(0x11)),
     Storage(Just(0), Just(0x22)),
     WritePair(address::C64, Just(0x4000)),
-    Expansion(Just(0)),
+    Expansion(Just(0), Just(0)),
     WritePair(address::LENGTH, Just(1)),
     Write(address::COMMAND, Just(0x92)),
-    Grants(BA_LOW, Just(10), Transfer),
-    Grants(PHI1_LOW, Just(11), Hold),
-    Grants(BA_HIGH, Just(12), Transfer),
-    Grants(BA_HIGH, Just(13), Transfer),
-    Grants(BA_HIGH, Just(14), Transfer),
+    Grants(BA_LOW, Just(10), Is(Transfer)),
+    Grants(PHI1_LOW, Just(11), Is(Hold)),
+    Grants(BA_HIGH, Just(12), Is(Transfer)),
+    Grants(BA_HIGH, Just(13), Is(Transfer)),
+    Grants(BA_HIGH, Just(14), Is(Transfer)),
     BusIs(Just(0x4000), Just(0x11)),
     StorageIs(Just(0), Just(0x11)),
     New,
@@ -255,7 +256,7 @@ const SESSIONS: [Row; 220] = [
     Bus(Just(0x4000), Just(0x11)),
     Storage(Just(0), Just(0x22)),
     WritePair(address::C64, Just(0x4000)),
-    Expansion(Just(0)),
+    Expansion(Just(0), Just(0)),
     WritePair(address::LENGTH, Just(1)),
     Write(address::COMMAND, Just(0x92)),
     Ticks(BA_LOW, Just(10), Just(1)),
@@ -286,6 +287,7 @@ const NUMBERS: [Line; 16] = [
 ];
 
 fn main(rt: HostRuntime) -> io::Result<()> {
+    // Arrays: a program takes no heap here.
     let mut machine = Machine {
         image: &mut [0; IMAGE_BYTES],
         bus: &mut zeros::<BUS_BYTES>(),

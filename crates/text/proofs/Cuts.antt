@@ -4,7 +4,7 @@ use mathlib.Core.Bool.{false≢true}
 use mathlib.Core.List.{List, [], ◌∷◌, ◌++◌, append_assoc, append-nil}
 use Prim.Native.Nat.{ℕ, zero, suc, ◌+◌, ◌≤◌, ◌<◌}
 use native.Mathlib.Omega.{arith}
-use lib.ListN.{length, take, length-take, length-append}
+use lib.ListN.{length, take, replicate, length-take, length-append}
 use lib.Seq.{take-append-add, take_all}
 use Rattle.std.specs.Prelude.{Result, Ok, Err, IsOk, OnOk, OnErr, ◌↔◌}
 use Rattle.arrayvec.specs.ArrayVec.{ArrayVec}
@@ -42,6 +42,18 @@ unfolding ◌⊕◌
 part t s n h =
     let e : 160 ≡ length t + n = omega arith in
     sym (ap (λ (k : ℕ). take k (t ++ s)) e ∙ take-append-add t s n)
+
+-- blanks, of which a whole line is enough
+enough : (m : ℕ) (t : List ℕ) (n c : ℕ) → m ≤ c → take m (t ++ take n (replicate c 32)) ≡ take m (t ++ replicate n 32)
+enough zero t n c h = refl
+enough (suc m) (a ∷ t) n c h = ap (λ (l : List ℕ). a ∷ l) (enough m t n c (omega arith))
+enough (suc m) [] zero c h = refl
+enough (suc m) [] (suc n) zero h = absurd (omega arith)
+enough (suc m) [] (suc n) (suc c) h = ap (λ (l : List ℕ). 32 ∷ l) (enough m [] n c (omega arith))
+
+pub blanks : (t s : List ℕ) (n : ℕ) {u : List ℕ} → u ≡ t ⊕ s → s ≡ take n (replicate 160 32) → u ≡ t ⊕ replicate n 32
+unfolding ◌⊕◌
+blanks t s n p e = p ∙ ap (λ (l : List ℕ). t ⊕ l) e ∙ enough 160 t n 160 (omega arith)
 
 -- what `try_push` leaves
 pub pushed : {T E : Type 0} (r : Result T E) (old new : ArrayVec ℕ) (b : ℕ)

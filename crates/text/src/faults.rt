@@ -17,6 +17,7 @@ pub fn number(word: &[u8], most: u32) -> Result<u32, Line>
 {
     match value_of(word) {
         Ok(value) if value <= most => Ok(value),
+        // Tried as one pattern with the next: the proof did not close, since the second of its cases has no facts that a proof can name.
         Ok(_) => Err(larger(word, most)),
         Err(NumberFault::TooLarge) => Err(larger(word, most)),
         Err(NumberFault::Bad) => Err(Line::new().fill(
@@ -35,7 +36,7 @@ fn larger(word: &[u8], most: u32) -> Line
         .put(b')')
 }
 
-// The words of a line from one on, each a number of at most `most`: the first fault.
+// The words of a line from one on, each a number of at most `most`: the first fault. By a word's number: see words.rt.
 pub fn numbers(line: &[u8], from: usize, most: u32) -> Result<(), Line>
     ensures { Says result (faults_of line.now from most) }
 {
@@ -45,7 +46,7 @@ pub fn numbers(line: &[u8], from: usize, most: u32) -> Result<(), Line>
     Ok(())
 }
 
-// The number that a word is; 0 for what is none.
+// The number that a word is; 0 for what is none, and no Option: it is asked of words that were found right, and the definitions say 0 of others.
 pub fn value(word: &[u8]) -> u32
     ensures value { result ≡ value_of (number_of word.now) }
     ensures upper_bound { result ≤ 16777215 }

@@ -3,14 +3,13 @@ ghost use Rattle.std.specs.Prelude.{◌≡◌, ◌+◌, ◌-◌, cond};
 ghost use Rattle.transfer.specs.Bytes.{bit, bit_of};
 ghost use Rattle.text.specs.Shown.{hex_digit};
 
-// A hexadecimal digit.
+// A hexadecimal digit. The cast loses nothing: its character is ASCII.
 pub(crate) fn hex_digit(value: u32) -> u8
     ensures { result ≡ hex_digit value }
 {
-    match value {
-        0..=9 => b'0' + value as u8,
-        10..=15 => b'A' + (value - 10) as u8,
-        _ => b'?',
+    match char::from_digit(value, 16) {
+        Some(digit) => digit.to_ascii_uppercase() as u8,
+        None => b'?',
     }
 }
 

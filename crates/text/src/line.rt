@@ -5,13 +5,36 @@ use crate::bytes::first;
 use crate::glyphs::{hex_digit, shown};
 use arrayvec::ArrayVec;
 
-// A line is made where there is no heap.
 pub const WIDTH: usize = 160;
 
+// Its bytes have fixed room, since nothing here may run out of memory.
 #[derive(Drop)]
 pub struct Line {
     bytes: ArrayVec<u8, WIDTH>,
     ghost fits: { length bytes.items ≤ 160 },
+}
+
+// A line that begins with a text: of a slice, and of a text in quotes, which is an array.
+impl From<&[u8]> for Line {
+    ghost use Rattle.std.specs.Prelude.{◌≡◌, []};
+    ghost use Rattle.text.specs.Shown.{◌⊕◌, text_of};
+
+    ghost from_gives = { λ s line. text_of line ≡ [] ⊕ s.now };
+
+    fn from(s: &[u8]) -> Line {
+        Line::new().text(s)
+    }
+}
+
+impl<const N: usize> From<&[u8; N]> for Line {
+    ghost use Rattle.std.specs.Prelude.{◌≡◌, []};
+    ghost use Rattle.text.specs.Shown.{◌⊕◌, text_of};
+
+    ghost from_gives = { λ s line. text_of line ≡ [] ⊕ s.now };
+
+    fn from(s: &[u8; N]) -> Line {
+        Line::from(s.as_slice())
+    }
 }
 
 impl Line {
@@ -58,11 +81,8 @@ impl Line {
     pub fn pad(self, column: usize) -> Line
         ensures { text_of result ≡ padded column (text_of self) }
     {
-        let mut line = self;
-        for _ in line.bytes.len()..column {
-            line = line.put(b' ');
-        }
-        line
+        let missing = column.saturating_sub(self.bytes.len());
+        self.text(first(&[b' '; WIDTH], missing))
     }
 
     // A text in which `word` stands for each %.
@@ -105,12 +125,12 @@ impl Line {
     }
 
     // In decimal.
+    #[tactic(auto, using(crate::proofs::Decimals::decimals))]
     pub fn digits(self, n: u64) -> Line
         ensures { text_of result ≡ text_of self ⊕ decimal_up_to 20 n }
     {
-        let mut digits = [0u8; 20];
-        let k = io::decimal(n, &mut digits);
-        self.text(&digits[..k])
+        let mut digits = itoa::Buffer::new();
+        self.text(digits.format(n).as_bytes())
     }
 
     // In decimal, as it is typed.

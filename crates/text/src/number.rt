@@ -12,7 +12,7 @@ pub enum NumberFault {
 // A number has at most 24 bits.
 const LARGEST: u32 = 0xFFFFFF;
 
-// The digits of `s`, in a base.
+// The digits of `s`, in a base, which `to_digit` needs between these bounds. Private: the callers say 10 or 16.
 fn digits_of(s: &[u8], base: u32) -> Result<u32, NumberFault>
     requires lower_bound { 2 ≤ base }
     requires upper_bound { base ≤ 16 }
@@ -23,9 +23,7 @@ fn digits_of(s: &[u8], base: u32) -> Result<u32, NumberFault>
     }
     let mut value = 0;
     for &byte in s {
-        let Some(digit) = char::from(byte).to_digit(base) else {
-            return Err(NumberFault::Bad);
-        };
+        let digit = char::from(byte).to_digit(base).ok_or(NumberFault::Bad)?;
         value = value * base + digit;
         if LARGEST < value {
             return Err(NumberFault::TooLarge);

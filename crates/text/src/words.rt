@@ -1,4 +1,6 @@
-// The words of what was typed: what stands between blanks.
+// The words of what was typed: what stands between blanks. The chain of `split` and `filter` is written twice, and loops over words go by a
+// word's number: no function can hand out the iterator, since the type of one with closures has no name, and an iterator of our own would do by
+// hand what `split` does. With `skip` it would stand a third time in each such loop, and these are defined by the words' numbers.
 ghost use Rattle.std.specs.Prelude.{◌≡◌, ◌≤◌, length};
 ghost use Rattle.text.specs.Typed.{is_blank, word_of, words_of};
 
@@ -20,7 +22,7 @@ pub fn word(line: &[u8], wanted: usize) -> &[u8]
         .unwrap_or(&[])
 }
 
-// How many words the line has. Loops over words go by their number: an iterator over them cannot be handed out, since its type has no name.
+// How many words the line has.
 pub fn word_count(line: &[u8]) -> usize
     ensures value { result ≡ words_of line.now }
     ensures upper_bound { result ≤ length line.now }

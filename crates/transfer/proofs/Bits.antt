@@ -26,9 +26,6 @@ bit_digit v n = ap bit_of (bit_div v n) ∙ back (v / 2 ^ n % 2) (mod-lt (v / 2 
     back q h true e = omega (arith, eqb-true q 1 e)
     back q h false e = omega (arith, eqb-false q 1 e)
 
-pub low_digit : (v : ℕ) → bit_of (bit v 0) ≡ v % 2
-low_digit v = bit_digit v 0 ∙ omega arith
-
 -- a digit that is known, and its bit
 pub bit_one : (v n : ℕ) → bit v n ≡ true → v / 2 ^ n % 2 ≡ 1
 bit_one v n e = eqb-true (v / 2 ^ n % 2) 1 (sym (bit_div v n) ∙ e)

@@ -1,3 +1,4 @@
 pub mod Bits
 pub mod Pick
 pub mod Sizes
+pub mod Numbers

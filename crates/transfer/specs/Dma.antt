@@ -88,6 +88,14 @@ neither = record { c64 = false; expansion = false }
 abbrev pub passed_number : Passed → ℕ
 passed_number p = 2 * bit_of p.c64 + 4 * bit_of p.expansion
 
+-- the marks in a step's value, whose other bit is its flag
+abbrev pub passed_in : ℕ → Passed
+passed_in n = record { c64 = bit n 1; expansion = bit n 2 }
+
+-- a mark of either of two steps
+abbrev pub either : Passed → Passed → Passed
+either p q = record { c64 = p.c64 || q.c64; expansion = p.expansion || q.expansion }
+
 -- "Completing a byte must also report .."
 unfoldable pub complete_byte : DmaState → Completed
 complete_byte d = record { done = eqb d.remaining 1; passed = passed d; dma = moved d }

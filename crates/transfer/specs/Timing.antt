@@ -1,7 +1,9 @@
 -- The grant record, what the grant asks of the running command, and the C64 side's next access.
-use Rattle.std.specs.Prelude.{◌+◌, ◌*◌, ◌&&◌}
-use Rattle.transfer.specs.Prelude.{ℕ, Bool, true, false, not, bool_eq, cond, C64Address, TransferType, Store, Recall, Swap, Verify, SwapPhase, ReadC64, WriteC64, DmaState, Option, None, Some, Put, Nothing, Storage, ReuC64Access, Read, Write, ReuBusAction, Cpu, Hold, Transfer}
+use Rattle.std.specs.Prelude.{◌+◌, ◌*◌, ◌&&◌, ◌≡◌, ◌≢◌, Result, MatchResult}
+use Rattle.transfer.specs.Prelude.{ℕ, Bool, true, false, not, bool_eq, cond, C64Address, TransferType, Store, Recall, Swap, Verify, SwapPhase, ReadC64, WriteC64, DmaState, Option, None, Some, Put, Nothing, Storage, ReuC64Access, Read, Write, ReuBusAction, Cpu, Hold, Transfer, ltb}
+use Rattle.transfer.specs.Constants.{bus_size}
 use Rattle.transfer.specs.Bytes.{bit}
+use Rattle.transfer.specs.declared.timing.NoAnswer.{NoAnswer}
 use Rattle.transfer.specs.Dma.{is_type, is_write_phase, runs, with_phase}
 
 -- "No transfer: Cpu. Transfer with BA low: Hold. Transfer with BA high: Transfer"
@@ -41,6 +43,19 @@ abbrev pub access_number : ReuC64Access → ℕ
 access_number ReuC64Access.None = 0
 access_number (Read a) = 1 * 65536 + a.0
 access_number (Write a) = 2 * 65536 + a.0
+
+-- a C64 address has 16 bits
+abbrev pub has_address : ReuC64Access → Bool
+has_address ReuC64Access.None = true
+has_address (Read a) = ltb a.0 bus_size
+has_address (Write a) = ltb a.0 bus_size
+
+-- a number read back: what has this number, or that nothing has it
+abbrev pub Grants : ℕ → Result ReuBusAction NoAnswer → Type 0
+Grants n r = MatchResult r (λ x. action_number x ≡ n) (λ e. (e.0 ≡ n) × ((x : ReuBusAction) → action_number x ≢ n))
+
+abbrev pub Accesses : ℕ → Result ReuC64Access NoAnswer → Type 0
+Accesses n r = MatchResult r (λ x. (has_address x ≡ true) × (access_number x ≡ n)) (λ e. (e.0 ≡ n) × ((x : ReuC64Access) → has_address x ≡ true → access_number x ≢ n))
 
 -- ---- what the grant asks of the running command
 

@@ -1,6 +1,6 @@
 // The transfer state, and the step that completes a byte.
 ghost use Rattle.std.specs.Prelude.{◌≡◌, ◌-◌, true, if◌then◌else◌, nat_eq};
-ghost use Rattle.transfer.specs.Dma.{complete_byte, latched, passed_number, recalled, type_number, type_of, well_dma, well_transfer, with_tail};
+ghost use Rattle.transfer.specs.Dma.{complete_byte, either, latched, passed_in, passed_number, recalled, type_number, type_of, well_dma, well_transfer, with_tail};
 ghost use Rattle.transfer.specs.Memory.{seen_at};
 
 use crate::constants::{
@@ -8,6 +8,7 @@ use crate::constants::{
     LAST_C64_ADDRESS, LAST_EXPANSION_ADDRESS,
 };
 use crate::memory::{C64Address, ExpansionAddress, Seen, seen_at};
+use std::ops::BitOr;
 
 #[derive(Clone, Copy, Debug, PartialEq, Eq)]
 pub enum TransferType {
@@ -47,7 +48,7 @@ pub struct Passed {
     pub expansion: bool,
 }
 
-// What completing a byte answers: whether it was the last, which address ran over its top, and the transfer after it.
+// What completing a byte answers: whether it was the last, which address ran over its top, and the transfer after it, which counts either way.
 #[derive(Clone, Copy, Debug, PartialEq, Eq)]
 pub struct Completed {
     pub done: bool,
@@ -56,7 +57,7 @@ pub struct Completed {
 }
 
 impl TransferType {
-    // The type by its number, bits 0 and 1 of a command.
+    // The type by its number, bits 0 and 1 of a command. No `From<u8>`: a command's other bits say other things, and the name is what tells.
     #[tactic(auto, unfolding(crate::specs::Dma::type_of))]
     pub fn from_command(command: u8) -> TransferType
         ensures { result ≡ type_of command }
@@ -97,6 +98,32 @@ impl From<Passed> for u32 {
 
     fn from(passed: Passed) -> u32 {
         2 * u32::from(passed.c64) + 4 * u32::from(passed.expansion)
+    }
+}
+
+// The marks in a value: its flag adds 1, they 2 and 4.
+impl From<u32> for Passed {
+    ghost from_gives = { λ n passed. passed ≡ passed_in n };
+
+    fn from(value: u32) -> Passed {
+        Passed {
+            c64: value & 2 != 0,
+            expansion: value & 4 != 0,
+        }
+    }
+}
+
+// The marks of either of two steps.
+impl BitOr for Passed {
+    type Output = Passed;
+
+    ghost bitor_gives = { λ one other passed. passed ≡ either one other };
+
+    fn bitor(self, other: Passed) -> Passed {
+        Passed {
+            c64: self.c64 | other.c64,
+            expansion: self.expansion | other.expansion,
+        }
     }
 }
 

@@ -21,7 +21,7 @@ pub struct Offset(pub u32);
 fn lines(size: u64) -> u32
     ensures { result ≡ lines size }
 {
-    u64::trailing_zeros(size)
+    size.trailing_zeros()
 }
 
 // A size that may be set, in bytes.
@@ -30,7 +30,7 @@ pub fn is_size(size: u64) -> bool
     ensures { result ≡ is_size size }
 {
     let connected = lines(size);
-    (u64::count_ones(size) == 1) & ((FEWEST_LINES <= connected) & (connected <= MOST_LINES))
+    (size.count_ones() == 1) & ((FEWEST_LINES <= connected) & (connected <= MOST_LINES))
 }
 
 // The chip-size mark in STATUS.
@@ -40,6 +40,8 @@ pub fn chip_mark(size: u32) -> bool
     size != CAPACITY_WITHOUT_MARK
 }
 
+// The two steps stay two: a trait with its law, for an `if` whose one arm differs, would be longer than both.
+
 impl C64Address {
     // The next address, unless it is fixed.
     pub fn step(self, fixed: bool) -> C64Address
@@ -48,7 +50,7 @@ impl C64Address {
         if fixed {
             self
         } else {
-            C64Address(std::num::wrapping_add_u16(self.0, 1))
+            C64Address(self.0.wrapping_add(1))
         }
     }
 }
@@ -58,7 +60,7 @@ impl ExpansionAddress {
     pub fn physical_offset(self, size: u32) -> Offset
         ensures { result ≡ physical_offset size self }
     {
-        let connected = lines(size as u64);
+        let connected = lines(u64::from(size));
         let kept = if connected < 32 {
             (1 << connected) - 1
         } else {
@@ -74,12 +76,14 @@ impl ExpansionAddress {
         if fixed {
             self
         } else {
-            ExpansionAddress(std::num::wrapping_add_u32(self.0, 1) % EXPANSION_ADDRESS_LIMIT)
+            ExpansionAddress(self.0.wrapping_add(1) % EXPANSION_ADDRESS_LIMIT)
         }
     }
 }
 
 // The bus and the storage are read and written here alone. A place outside of them, which no tested length leaves, reads 0 and is not written.
+// There are two functions for each, since only a storage's place is folded. The size comes from the controller, and bus and storage from the host,
+// so the three are no one value. `as usize` widens: std has no `From<u32>` for it.
 
 fn bus_byte(bus: &[u8], addr: C64Address) -> u8
     ensures { result ≡ bus_byte bus.now addr }
@@ -124,7 +128,8 @@ pub enum Put {
     Storage(ExpansionAddress, u8),
 }
 
-// A byte at a place; past the end nothing is written.
+// A byte at a place; past the end nothing is written. A test and an index: after `get_mut` the proof did not close, since the slice that it
+// borrows from is not known any more.
 fn set_byte(bytes: &mut [u8], at: usize, value: u8)
     ensures { bytes.new ≡ set bytes.old at value }
 {

@@ -1,7 +1,8 @@
 // The grant of a cycle, and the C64 side's next access.
-ghost use Rattle.std.specs.Prelude.{◌≡◌};
-ghost use Rattle.transfer.specs.Timing.{access_by_type, access_number, access_of, action_for_cycle, action_number, read_again, recall_starts, restored, resumes, swap_reads, swap_writes};
-ghost use Rattle.transfer.specs.Dma.{with_phase};
+ghost use Rattle.std.specs.Prelude.{◌≡◌, ◌&&◌};
+ghost use Rattle.transfer.specs.Prelude.{Swap, bool_eq};
+ghost use Rattle.transfer.specs.Timing.{Accesses, Grants, access_number, access_of, action_for_cycle, action_number, read_again, recall_starts, restored, resumes, swap_reads, swap_writes};
+ghost use Rattle.transfer.specs.Dma.{is_type, is_write_phase};
 
 use crate::constants::ACCESS_KIND;
 use crate::dma::{DmaState, SwapPhase, TransferType};
@@ -42,7 +43,11 @@ pub fn c64_access(dma: Option<DmaState>, refresh: bool) -> ReuC64Access
     dma.map_or(ReuC64Access::None, |d| d.access(refresh))
 }
 
-// The numbers of an answer.
+// The numbers of an answer, and back.
+
+// A number that stands for none.
+#[derive(Clone, Copy, Debug, PartialEq, Eq)]
+pub struct NoAnswer(pub u32);
 
 impl From<ReuBusAction> for u32 {
     ghost from_gives = { λ action n. n ≡ action_number action };
@@ -56,6 +61,21 @@ impl From<ReuBusAction> for u32 {
     }
 }
 
+impl TryFrom<u32> for ReuBusAction {
+    type Error = NoAnswer;
+
+    ghost try_from_gives = { Grants };
+
+    fn try_from(value: u32) -> Result<ReuBusAction, NoAnswer> {
+        match value {
+            0 => Ok(ReuBusAction::Cpu),
+            1 => Ok(ReuBusAction::Hold),
+            2 => Ok(ReuBusAction::Transfer),
+            _ => Err(NoAnswer(value)),
+        }
+    }
+}
+
 impl From<ReuC64Access> for u32 {
     ghost from_gives = { λ access n. n ≡ access_number access };
 
@@ -64,6 +84,23 @@ impl From<ReuC64Access> for u32 {
             ReuC64Access::None => 0,
             ReuC64Access::Read(addr) => ACCESS_KIND + u32::from(addr.0),
             ReuC64Access::Write(addr) => 2 * ACCESS_KIND + u32::from(addr.0),
+        }
+    }
+}
+
+impl TryFrom<u32> for ReuC64Access {
+    type Error = NoAnswer;
+
+    ghost try_from_gives = { Accesses };
+
+    fn try_from(value: u32) -> Result<ReuC64Access, NoAnswer> {
+        let [low, high, kind, none] = value.to_le_bytes();
+        let addr = C64Address(u16::from_le_bytes([low, high]));
+        match (none, kind, addr.0) {
+            (0, 0, 0) => Ok(ReuC64Access::None),
+            (0, 1, _) => Ok(ReuC64Access::Read(addr)),
+            (0, 2, _) => Ok(ReuC64Access::Write(addr)),
+            _ => Err(NoAnswer(value)),
         }
     }
 }
@@ -83,16 +120,23 @@ impl DmaState {
 
     // What the grant asks of the running command.
 
+    // A swap is in its first half, or in its second.
     pub fn swap_reads(self) -> bool
         ensures { result ≡ swap_reads (Some self) }
     {
-        (self.transfer_type == TransferType::Swap) & (self.swap_phase == SwapPhase::ReadC64)
+        self.is_swap_in(SwapPhase::ReadC64)
     }
 
     pub fn swap_writes(self) -> bool
         ensures { result ≡ swap_writes (Some self) }
     {
-        (self.transfer_type == TransferType::Swap) & (self.swap_phase == SwapPhase::WriteC64)
+        self.is_swap_in(SwapPhase::WriteC64)
+    }
+
+    fn is_swap_in(self, phase: SwapPhase) -> bool
+        ensures { result ≡ (is_type self.transfer_type Swap && bool_eq (is_write_phase self.swap_phase) (is_write_phase phase)) }
+    {
+        (self.transfer_type == TransferType::Swap) & (self.swap_phase == phase)
     }
 
     pub fn recall_starts(self) -> bool

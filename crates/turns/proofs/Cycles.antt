@@ -2,11 +2,11 @@
 use mathlib.Core.Path.{◌≡◌, refl, sym, ap, ◌∙◌, subst}
 use mathlib.Core.Bool.{Bool, true, false, cond, false≢true}
 use mathlib.Core.List.{List}
-use Prim.Native.Nat.{ℕ, ◌+◌, ◌/◌, ◌%◌, ◌≤◌}
+use Prim.Native.Nat.{ℕ, ◌+◌, ◌/◌, ◌%◌}
 use native.Mathlib.Omega.{arith}
 use lib.Dec.{eqb}
 use lib.ListN.{length}
-use borrow.Author.Tests.{eq-eqb, eqb-false, eqb-true, le-ltb}
+use borrow.Author.Tests.{eq-eqb, eqb-false, eqb-true}
 use Rattle.image.specs.Layout.{image_size, place_of, transfer_exp}
 use Rattle.controller.specs.declared.reu.Reu.{Reu}
 use Rattle.std.specs.Prelude.{Result, Ok, Err}
@@ -24,11 +24,9 @@ use Rattle.pane.specs.declared.answers.Refused.{Refused}
 use Rattle.lines.specs.declared.clock.Inputs.{Inputs}
 use Rattle.console.specs.declared.step.Cycle.{Cycle}
 use Rattle.console.specs.Step.{access_ready, action_in, asked_of, cycle_of, refused_in, with_marks}
+use Rattle.console.proofs.Answered.{large}
 use Rattle.turns.specs.Cycles.{GrantsAreTaken, ShownAs}
 use Rattle.turns.proofs.Taken.{Takes, calls_take}
-
-large : (n : ℕ) → (n ≡ 0 → ⊥) → accepted (refusal n) ≡ false
-large n bad = let l : refusal_unit ≤ refusal n = omega arith in le-ltb (refusal n) refusal_unit l
 
 module _ (i m s : List ℕ) (high number low phi1 : ℕ) where
   abbrev n : ℕ

@@ -1,12 +1,12 @@
 -- What holds of turns.
 use mathlib.Core.Path.{◌≡◌, refl, sym, ap, ◌∙◌, subst}
-use mathlib.Core.Bool.{Bool, true, false, cond, false≢true}
+use mathlib.Core.Bool.{Bool, true, false, cond}
 use mathlib.Core.List.{List, [], ◌∷◌}
 use Prim.Native.Nat.{ℕ, zero, suc, ◌-◌, ◌≤◌, ◌<◌}
 use native.Mathlib.Omega.{arith}
 use lib.Dec.{eqb}
 use lib.ListN.{length, get_or}
-use borrow.Author.Tests.{eqb-true, lt-ltb, ne_eqb}
+use borrow.Author.Tests.{lt-ltb, ne_eqb}
 use Rattle.std.specs.Prelude.{None, Some}
 use Rattle.text.specs.Shown.{ascii}
 use Rattle.text.specs.Typed.{same, word_of}
@@ -15,6 +15,7 @@ use Rattle.console.specs.Apply.{apply_of, control_of, count_or, step_outcome}
 use Rattle.lines.specs.Clock.{time_of}
 use Rattle.lines.specs.Commands.{is, is_comment}
 use Rattle.lines.specs.Keys.{command_of}
+use Rattle.lines.proofs.Named.{same_true}
 use Rattle.console.specs.Session.{Held, Turn, ended_after, ended_by, fault_in, held_of, is_dropped, machine_of, steps_by, steps_of, turn_of}
 use Rattle.console.proofs.Turns.{forgets, obeys}
 use Rattle.turns.specs.Turns.{FaultsChangeNothing, StepsAreCycles, Turns, cycled, cycles}
@@ -32,20 +33,6 @@ faults_change_nothing t z i m s h n =
     ∙ (λ j. (held_of z i m s, cond (some_bytes (fault_in i t) n j) None (Some (fault_in i t)), None))
 
 -- ---- z
-
--- texts that are the same are equal
-ahead :
-    {a b : ℕ} {s t : List ℕ} (x : Bool) → eqb a b ≡ x → cond x (same s t) false ≡ true → (same s t ≡ true → s ≡ t) →
-    a ∷ s ≡ b ∷ t
-ahead {a} {b} true q e further = λ j. eqb-true a b q j ∷ further e j
-ahead false q e further = absurd (false≢true e)
-
-same_true : (s t : List ℕ) → same s t ≡ true → s ≡ t
-unfolding same
-same_true [] [] e = refl
-same_true [] (b ∷ t) e = absurd (false≢true e)
-same_true (a ∷ s) [] e = absurd (false≢true e)
-same_true (a ∷ s) (b ∷ t) e = ahead (eqb a b) refl e (same_true s t)
 
 module _ (t : List ℕ) (w : ascii "z" ≡ word_of 0 t) where
   -- a line whose word is z is no comment, does nothing to the machine, and does not end the session

@@ -1,10 +1,5 @@
-use Rattle.std.proofs.Common.{rules}
-use Rattle.reu.proofs.Families.{change_refused, change_done, kept_by}
+use Rattle.reu.proofs.Families.{change_refused, change_done}
 use Rattle.reu.proofs.change.Goals as goal
-
-pub finish-requires : goal.finish-requires
-finish-requires g c =
-    kept_by c.args.image.now c.in-Ok.reu c.in-Ok.ensures c.call.result (λ j. search rules) (λ t w. c.requires.keeps _ _ t w c.call.ensures)
 
 pub returns-in-Ok : goal.returns-in-Ok
 returns-in-Ok g c =

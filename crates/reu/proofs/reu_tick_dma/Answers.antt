@@ -1,21 +1,8 @@
-use Rattle.std.proofs.Common.{ap, ◌∙◌, rules}
-use Rattle.controller.specs.TickDma.{Ticked}
-use Rattle.controller.specs.Calls.{numbered, tick_call}
+use Rattle.std.proofs.Common.{rules}
 use Rattle.reu.specs.Exports.{flag}
-use Rattle.reu.proofs.Families.{both_refused, both_done, kept, bytes_of}
-use Rattle.reu.proofs.Wholes.{tick_whole}
+use Rattle.reu.proofs.Keeping.{tick_keeps}
 use Rattle.reu.proofs.reu_tick_dma.Goals as goal
 
-pub finish-requires : goal.finish-requires
-finish-requires c =
-    kept c.args.image.now c.in-Ok.reu c.in-Ok.ensures c.numbered.result _ (c.numbered.ensures c.in-Ok.reu ∙ ap (λ (x : Ticked). numbered x.0) c.tick_dma.ensures) (λ j. search rules)
-    (λ s. tick_whole _ s c.args.storage.now (bytes_of c.args.storage.now (λ j. search rules)) c.args.bus.now (bytes_of c.args.bus.now (λ j. search rules)) c.args.cycle (flag c.args.ba_low))
-
-pub returns-in-Ok : goal.returns-in-Ok
-returns-in-Ok c =
-    both_done c.args.image.now c.in-Ok.reu c.in-Ok.ensures c.args.bus.now c.args.storage.now _ _ (λ u b t. tick_call u b t c.args.cycle (flag c.args.ba_low)) c.tick_dma.result
-    c.numbered.result _ _ c.tick_dma.ensures (c.numbered.ensures c.in-Ok.reu) c.finish.ensures
-
-pub returns-in-Err : goal.returns-in-Err
-returns-in-Err c =
-    both_refused c.args.image.now c.in-Err.reason c.in-Err.ensures c.args.bus.now c.args.storage.now (λ u b t. tick_call u b t c.args.cycle (flag c.args.ba_low)) _ c.refused.ensures
+pub change_both-requires-clause-keeps : goal.change_both-requires-clause-keeps
+change_both-requires-clause-keeps c =
+    λ u m s b t r typed w bm bs p. tick_keeps u r typed w m.now s.now b.now t.now bm bs c.args.cycle (flag c.args.ba_low) (search rules)

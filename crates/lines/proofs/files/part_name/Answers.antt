@@ -6,7 +6,7 @@ use Rattle.lines.proofs.files.part_name.Goals as goal
 
 pub returns-clause-cut : goal.returns-clause-cut
 returns-clause-cut c =
-    then _ (then _ c.new.ensures c.text.ensures) c.text-2.ensures
+    then _ c.from.ensures c.text.ensures
     ∙ ap (λ (s : List ℕ). [] ⊕ c.args.name.now ⊕ s) c.suffix.ensures ∙ named _ _
 
 pub returns-clause-whole : goal.returns-clause-whole

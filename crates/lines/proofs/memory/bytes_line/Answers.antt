@@ -1,8 +1,9 @@
+use Rattle.std.proofs.Common.{rules}
 use Rattle.lines.proofs.Bytes.{onward, ended}
 use Rattle.lines.proofs.memory.bytes_line.Goals as goal
 
-pub loop-i-preserved : goal.loop-i-preserved
-loop-i-preserved c = onward _ _ _ _ _ _ _ c.loop-i.invariant c.loop-i-test.true c.byte_up_to-line.ensures
+pub loop-at-preserved : goal.loop-at-preserved
+loop-at-preserved c = onward _ _ _ _ _ c.loop-at.invariant (rw (← c.min-stop.ensures) c.loop-at-test.true) (search rules)
 
 pub returns : goal.returns
-returns c = ended _ _ _ _ _ _ _ c.loop-i.invariant c.loop-i-test.false
+returns c = ended _ _ _ _ _ c.loop-at.invariant (rw (← c.min-stop.ensures) c.loop-at-test.false)

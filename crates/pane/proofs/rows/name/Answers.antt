@@ -3,5 +3,4 @@ use Rattle.pane.proofs.rows.name.Goals as goal
 
 pub returns : goal.returns
 returns c =
-    then _ (then _ (then _ c.new.ensures c.text.ensures) (rw c.from.ensures at c.hex.ensures))
-    (rw c.register_name.ensures at c.text-2.ensures)
+    then _ (then _ c.from.ensures (rw c.from-2.ensures at c.hex.ensures)) (rw c.register_name.ensures at c.text.ensures)

@@ -1,13 +1,9 @@
-use Rattle.std.proofs.Common.{arith, ◌≡◌, ◌+◌, ◌-◌, suc}
-use Rattle.text.proofs.Cuts.{onward, ended}
+use Rattle.std.proofs.Common.{ℕ, ◌-◌, ap, replicate, ◌∙◌}
+use Rattle.text.specs.Shown.{◌⊕◌, text_of}
+use Rattle.text.proofs.Cuts.{blanks}
 use Rattle.text.proofs.line.Line.pad.Goals as goal
-
-pub loop-preserved : goal.loop-preserved
-loop-preserved c =
-    let left : c.args.column - c.loop.counter ≡ suc (c.args.column - (c.loop.counter + 1)) = omega arith in
-    onward _ _ _ (rw left) c.loop.invariant c.put-line.ensures
 
 pub returns : goal.returns
 returns c =
-    let none : c.args.column - c.loop.counter ≡ 0 = omega arith in
-    ended _ c.loop.line.fits (rw none) c.loop.invariant
+    blanks _ _ _ c.text.ensures c.first.ensures
+    ∙ ap (λ (n : ℕ). text_of c.args.self ⊕ replicate n 32) (c.saturating_sub-missing.ensures ∙ ap (λ (n : ℕ). c.args.column - n) c.len.ensures.value)
