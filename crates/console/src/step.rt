@@ -26,7 +26,7 @@ pub struct Cycle {
     pub passed: Passed,
 }
 
-// ---- numbers of the calls
+// ---- numbers of the calls, as the C interface has them
 
 // A grant: no call answers another number.
 fn action_in(value: u32) -> ReuBusAction
@@ -251,7 +251,7 @@ fn advance(run: Run, image: &mut [u8], bus: &mut [u8], storage: &mut [u8]) -> Ru
     count(run, done)
 }
 
-// Cycles until the command has ended, and at most `limit`.
+// Cycles until the command has ended, and at most `limit`: a count, with nothing to go through. Where no command runs a step changes nothing.
 pub fn go(clock: Clock, limit: u32, image: &mut [u8], bus: &mut [u8], storage: &mut [u8]) -> Run
     ensures { (result, image.new, bus.new, storage.new) ≡ go_of limit (started clock, image.old, bus.old, storage.old) }
 {

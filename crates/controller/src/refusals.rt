@@ -20,7 +20,7 @@ pub enum Refusal {
     Attached,
 }
 
-// The number that a refusal is answered by.
+// The number that a refusal is answered by, as include/reu.h has it.
 impl From<Refusal> for u32 {
     ghost from_gives = { λ refusal n. n ≡ refusal_number refusal };
 

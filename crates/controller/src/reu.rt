@@ -13,7 +13,7 @@ use regs::{
 };
 use transfer::{DmaState, Passed, Put, ReuBusAction, chip_mark, clear};
 
-// The eleven registers beside the running command. The storage is the host's; `attached` says that it is there.
+// The eleven registers beside the running command. The fields are the original's, the three shadows among them. The storage is the host's; `attached` says that it is there.
 #[derive(Clone, Copy, Debug, PartialEq, Eq)]
 pub struct Reu {
     pub regs: [u8; REGISTER_COUNT],
@@ -63,6 +63,7 @@ pub struct BusAnswer {
 }
 
 // What a tick answers: whether the command goes on, which address ran over its top, the controller after it, and what is written.
+// Its flag is no Option's, as in `Step`.
 #[derive(Clone, Copy, Debug, PartialEq, Eq)]
 pub struct TickAnswer {
     pub flag: bool,

@@ -43,8 +43,8 @@ fn three(image: &[u8; IMAGE_BYTES], place: usize) -> u32
     u32::from_le_bytes([low, middle, high, 0])
 }
 
-// A phase and a size are numbers here since a saved image holds bytes. A `match` is plainer than a table of sizes: the code of a size would be
-// searched there, an index of another type, and the search could find none.
+// A phase and a size are numbers here since a saved image holds bytes. A `match` is plainer than a table of sizes: the code would be cast to index
+// it, and past its end there is a size too.
 fn phase_of(n: u8) -> SwapPhase
     ensures { result ≡ phase_of n }
 {

@@ -78,7 +78,8 @@ struct Cells;
 impl Target for Cells {
     ghost after = { λ at value bytes. list_set bytes at value };
 
-    // A test and an index: what a slice holds after a write through its `get_mut` is in no contract of the library.
+    // A test and an index. Tried as `get_mut`: the proof did not close, since what a slice holds after a write through it is in no contract of
+    // the library.
     fn put(bytes: &mut [u8], at: usize, value: u8) {
         if at < bytes.len() {
             bytes[at] = value;

@@ -55,7 +55,7 @@ pub(crate) fn save(rt: &impl Files, name: &[u8], machine: &Machine) -> Result<()
 
 // ---- opening
 
-// Reads until the bytes are full, the file ends or a read fails; how many it read. A `while let`: how many bytes a read gives only it says.
+// Reads until the bytes are full, the file ends or a read fails; how many it read. A `while let`: how many bytes a read gives, only the read says.
 fn read_full(file: &mut impl Read, bytes: &mut [u8]) -> usize
     ensures { result ≤ length bytes.new }
 {

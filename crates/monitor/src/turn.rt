@@ -17,7 +17,7 @@ use std::rt::Files;
 use text::line::Line;
 use text::words::word;
 
-// Where commands come from, and how they are shown: in colour, and, where nobody typed them, each before its answer: both are
+// Where commands come from, and how they are shown: in colour, and, where nobody typed them, each before its answer. Both are
 // asked once, at the start.
 #[derive(Drop)]
 pub struct Terminal<S> {
@@ -44,7 +44,7 @@ fn echo(rt: &impl Print, cycle: u64, source: &mut impl Read) -> io::Result<Optio
     Ok(line)
 }
 
-// The next line, unless cycles are still to be stepped: then it is not looked at. None at the input's end.
+// The next line; none at the input's end. While cycles are still to be stepped it is not looked at, so a line of no bytes stands for it.
 fn listen<S: Read>(
     rt: &impl Print,
     session: &Session,

@@ -48,7 +48,7 @@ fn change<F: FnOnce(Reu) -> Result<Answered<u32>, Refusal>>(image: &mut [u8], ca
 }
 
 // The same of a call that is lent the storage too. It is handed on to the call: after the call of a generic function nothing is known of
-// what its closure wrote in what it captured. Tried as one helper with a type parameter for what is lent, also nothing: the proof did not
+// what its closure wrote in what it captured. Tried as one helper with a type parameter for what is lent, which may be nothing: the proof did not
 // close, since a value of such a type has no `.old` and no `.new`, so that the contract cannot say what a slice ends as.
 #[tactic(auto, using(crate::proofs::Families::kept_by))]
 fn change_storage<F: FnOnce(Reu, &mut [u8]) -> Result<Answered<u32>, Refusal>>(

@@ -8,7 +8,7 @@ use crate::line::Line;
 use crate::number::{NumberFault, value_of};
 use crate::words::{word, word_count};
 
-// A number of at most `most`.
+// A number of at most `most`. No `TryFrom`: it takes `most` beside the word.
 #[tactic(auto, unfolding(crate::specs::Faults::fault_of))]
 pub fn number(word: &[u8], most: u32) -> Result<u32, Line>
     ensures says { Says result (fault_of word.now most) }

@@ -48,7 +48,7 @@ pub struct Passed {
     pub expansion: bool,
 }
 
-// What completing a byte answers: whether it was the last, which address ran over its top, and the transfer after it, which counts either way.
+// What completing a byte answers: whether it was the last, which address ran over its top, and the transfer after it, whether it was the last or not.
 #[derive(Clone, Copy, Debug, PartialEq, Eq)]
 pub struct Completed {
     pub done: bool,

@@ -120,7 +120,7 @@ pub fn seen_at(
     }
 }
 
-// What a grant or a tick writes: at most one byte. Three cases side by side: as an `Option` around two, each match would have the same three arms.
+// What a grant or a tick writes: at most one byte. Three cases side by side: as an `Option` around two, each match would name the same three cases.
 #[derive(Clone, Copy, Debug, PartialEq, Eq)]
 pub enum Put {
     Nothing,

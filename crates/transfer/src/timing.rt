@@ -17,7 +17,7 @@ pub enum ReuBusAction {
 }
 
 // What the next granted cycle does on the C64's bus. Three cases side by side, as in the original: as an `Option` around two, each match would
-// have the same three arms.
+// name the same three cases.
 #[derive(Clone, Copy, Debug, PartialEq, Eq)]
 pub enum ReuC64Access {
     None,
@@ -43,9 +43,9 @@ pub fn c64_access(dma: Option<DmaState>, refresh: bool) -> ReuC64Access
     dma.map_or(ReuC64Access::None, |d| d.access(refresh))
 }
 
-// The numbers of an answer, and back.
+// The numbers of an answer, as include/reu.h has them, and back.
 
-// A number that stands for none.
+// A number that stands for no answer.
 #[derive(Clone, Copy, Debug, PartialEq, Eq)]
 pub struct NoAnswer(pub u32);
 
