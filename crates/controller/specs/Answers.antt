@@ -1,6 +1,7 @@
 -- What a public call answers, by number: 0 where it is accepted, else a refusal's.
-use Rattle.controller.specs.Prelude.{ℕ, Bool, false, Result, Ok, Err, Passed, Reu, Refusal, Length, Field, Size, Attached, Answered, Step}
+use Rattle.controller.specs.Prelude.{ℕ, Bool, false, None, Result, Ok, Err, Passed, Reu, Refusal, Length, Field, Size, Attached, Answered, Step}
 use Rattle.transfer.specs.Dma.{neither}
+use Rattle.regs.specs.Stores.{Handed}
 
 -- ---- "Each returns 16,777,216 times the refusal number plus a value": the number, the value, and the controller after the call
 
@@ -9,11 +10,13 @@ pub record Answer : Type 0 where
   pub value : ℕ
   pub reu : Reu
 
--- of a tick and a cycle the value is whether the command goes on or the processor is held, and L2's two marks
+-- of a tick and a cycle the value is whether the command goes on or the processor is held, and L2's two marks. L5: "The core step hands out
+-- these stores, index and value, beside its answer"
 pub record StepAnswer : Type 0 where
   pub refusal : ℕ
   pub flag : Bool
   pub passed : Passed
+  pub stores : Handed
   pub reu : Reu
 
 -- of the step over a controller that is lent the same, without the controller
@@ -21,6 +24,7 @@ pub record Stepped : Type 0 where
   pub refusal : ℕ
   pub flag : Bool
   pub passed : Passed
+  pub stores : Handed
 
 -- "1: image length ..; 2: a field outside the ranges ..; 3: bus ..; 4: storage". L4: "Refusal 5 is another size, 6 setting one when attached"
 abbrev pub refusal_number : Refusal → ℕ
@@ -42,12 +46,13 @@ answer_of u (Ok a) = record { refusal = 0; value = a.value; reu = a.reu }
 answer_of u (Err e) = record { refusal = refusal_number e; value = 0; reu = u }
 
 abbrev pub step_of : Answered Step → StepAnswer
-step_of a = record { refusal = 0; flag = a.value.flag; passed = a.value.passed; reu = a.reu }
+step_of a =
+    record { refusal = 0; flag = a.value.flag; passed = a.value.passed; stores = a.value.stores; reu = a.reu }
 
 abbrev pub step_answer_of : Reu → Result (Answered Step) Refusal → StepAnswer
 step_answer_of u (Ok a) = step_of a
-step_answer_of u (Err e) = record { refusal = refusal_number e; flag = false; passed = neither; reu = u }
+step_answer_of u (Err e) = record { refusal = refusal_number e; flag = false; passed = neither; stores = None; reu = u }
 
 abbrev pub stepped_of : Result Step Refusal → Stepped
-stepped_of (Ok s) = record { refusal = 0; flag = s.flag; passed = s.passed }
-stepped_of (Err e) = record { refusal = refusal_number e; flag = false; passed = neither }
+stepped_of (Ok s) = record { refusal = 0; flag = s.flag; passed = s.passed; stores = s.stores }
+stepped_of (Err e) = record { refusal = refusal_number e; flag = false; passed = neither; stores = None }

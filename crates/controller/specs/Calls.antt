@@ -99,7 +99,8 @@ numbered a = record { refusal = a.refusal; value = step_number a.flag a.passed; 
 -- ---- the step over a controller that is lent: the answer, then the controller
 
 abbrev pub stepped : Ticked → (Stepped × Reu × List ℕ × List ℕ)
-stepped x = (record { refusal = x.0.refusal; flag = x.0.flag; passed = x.0.passed }, x.0.reu, x.1, x.2)
+stepped x =
+    (record { refusal = x.0.refusal; flag = x.0.flag; passed = x.0.passed; stores = x.0.stores }, x.0.reu, x.1, x.2)
 
 abbrev pub step_call : Reu → List ℕ → List ℕ → Bool → Bool → ℕ → Bool → (Stepped × Reu × List ℕ × List ℕ)
 step_call u m s high phi1 cycle low = stepped (cycle_call u m s high phi1 cycle low)

@@ -16,12 +16,12 @@ capped n = cond (leb n most_granted) n most_granted
 unfoldable pub counted : Reu → Reu
 counted u = with_granted u (capped (u.granted_cycles + 1))
 
--- L2: the cycle passes on what the tick reports; Cpu and Hold report neither
+-- L2, L5: the cycle passes on what the tick reports and the stores that it hands out; Cpu and Hold have none
 unfoldable pub cycle_by : ReuBusAction → Reu → List ℕ → List ℕ → ℕ → Bool → Ticked
 cycle_by Cpu u m s cycle low = (quiet_step 0 false u, m, s)
 cycle_by Hold u m s cycle low = (quiet_step 0 true u, m, s)
 cycle_by Transfer u m s cycle low =
-    let t : Ticked = tick_dma u m s cycle low in (ticked true t.0.passed (counted t.0.reu), t.1, t.2)
+    let t : Ticked = tick_dma u m s cycle low in (ticked true t.0.passed t.0.stores (counted t.0.reu), t.1, t.2)
 
 unfoldable pub run_reu_cycle : Reu → List ℕ → List ℕ → Bool → Bool → ℕ → Bool → Ticked
 run_reu_cycle u m s high phi1 cycle low =

@@ -36,7 +36,7 @@ impl Reu {
                 let ticked = self.tick(bus, storage, cycle, ba_low);
                 ticked.reu.counted().answered(Step {
                     flag: true,
-                    passed: ticked.value.passed,
+                    ..ticked.value
                 })
             }
         }

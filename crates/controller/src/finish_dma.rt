@@ -1,9 +1,12 @@
 // The visible counters, the interrupt, and the end of a command.
 ghost use Rattle.std.specs.Prelude.{◌≡◌};
-ghost use Rattle.controller.specs.FinishDma.{finish_dma, publish_live_counters, update_irq};
+ghost use Rattle.controller.specs.FinishDma.{autoload_stores, finish_dma, publish_live_counters, update_irq, with_stores};
 
 use crate::reu::Reu;
-use regs::{STATUS_IRQ_PENDING, autoloaded, counters, finished, irq_due, marked};
+use regs::{
+    COUNTERS, RegisterStore, STATUS_IRQ_PENDING, autoloaded, counters, finished, irq_due, made,
+    marked,
+};
 use transfer::DmaState;
 
 impl Reu {
@@ -26,21 +29,37 @@ impl Reu {
         self
     }
 
+    // STATUS and COMMAND say that the command has ended. The seven registers that Autoload loads are left to its stores.
     #[tactic(auto, unfolding(crate::specs::FinishDma::finish_dma))]
-    pub(crate) fn finish_dma(self, dma: DmaState, completed: bool) -> Reu
-        ensures { result ≡ finish_dma self dma completed }
+    pub(crate) fn finish_dma(self, completed: bool) -> Reu
+        ensures { result ≡ finish_dma self completed }
     {
-        let regs = autoloaded(
-            finished(self.regs, completed),
-            dma.autoload,
-            self.shadow_c64_addr,
-            self.shadow_reu_addr,
-            self.shadow_len,
-        );
         Reu {
-            regs,
+            regs: finished(self.regs, completed),
             ..self.stopped()
         }
         .update_irq()
+    }
+
+    // The stores at the end of a command: with Autoload the shadows' bytes.
+    pub(crate) fn autoload_stores(self, autoload: bool) -> Option<[RegisterStore; COUNTERS]>
+        ensures { result ≡ autoload_stores self autoload }
+    {
+        autoloaded(
+            autoload,
+            self.shadow_c64_addr,
+            self.shadow_reu_addr,
+            self.shadow_len,
+        )
+    }
+
+    #[tactic(auto, unfolding(crate::specs::FinishDma::with_stores))]
+    pub(crate) fn with_stores(mut self, stores: Option<[RegisterStore; COUNTERS]>) -> Reu
+        ensures { result ≡ with_stores self stores }
+    {
+        if let Some(seven) = stores {
+            self.regs = made(seven, self.regs);
+        }
+        self
     }
 }

@@ -1,5 +1,5 @@
 // The controller, and its public calls. Each tests what it is handed, and answers a refusal, changing nothing, or does its work.
-ghost use Rattle.std.specs.Prelude.{◌≡◌};
+ghost use Rattle.std.specs.Prelude.{◌≡◌, None};
 ghost use Rattle.transfer.specs.Dma.{neither};
 ghost use Rattle.controller.specs.Enable.{disabled, fresh, new_reu, reset_reu, set_enabled, set_size, with_mark};
 ghost use Rattle.controller.specs.Answers.{answer_of, step_answer_of};
@@ -8,8 +8,8 @@ ghost use Rattle.controller.specs.Calls.{answered, bus_action_call, c64_access_c
 use crate::constants::{BUS_BYTES, REU_1764_CAPACITY_BYTES};
 use crate::refusals::Refusal;
 use regs::{
-    ADDRESS_CONTROL_UNUSED_READ_HIGH, BANK_UNUSED_READ_HIGH, COMMAND_FF00_DISABLE,
-    INTERRUPT_UNUSED_READ_HIGH, REGISTER_COUNT, STATUS, STATUS_VERSION,
+    ADDRESS_CONTROL_UNUSED_READ_HIGH, BANK_UNUSED_READ_HIGH, COMMAND_FF00_DISABLE, COUNTERS,
+    INTERRUPT_UNUSED_READ_HIGH, REGISTER_COUNT, RegisterStore, STATUS, STATUS_VERSION,
 };
 use transfer::{DmaState, Passed, Put, ReuBusAction, chip_mark, clear};
 
@@ -45,12 +45,13 @@ pub struct Answered<T> {
     pub reu: Reu,
 }
 
-// What a tick and a cycle give: whether the command goes on or, of a cycle, whether the processor is held, and which address ran over its top.
-// The flag says nothing of the marks, so it is no Option's.
+// What a tick and a cycle give: whether the command goes on or, of a cycle, whether the processor is held, which address ran over its top, and
+// which registers were stored, in their order, where it ended a command with Autoload. The flag says nothing of the rest, so it is no Option's.
 #[derive(Clone, Copy, Debug, PartialEq, Eq)]
 pub struct Step {
     pub flag: bool,
     pub passed: Passed,
+    pub stores: Option<[RegisterStore; COUNTERS]>,
 }
 
 // A grant, the controller after it, and what is written. It and a tick's answer are two records: as one with a type parameter, what a tick says
@@ -62,24 +63,26 @@ pub struct BusAnswer {
     pub put: Put,
 }
 
-// What a tick answers: whether the command goes on, which address ran over its top, the controller after it, and what is written.
-// Its flag is no Option's, as in `Step`.
+// What a tick answers: whether the command goes on, which address ran over its top, the stores that it hands out, the controller before these
+// are made, and what is written. Its flag is no Option's, as in `Step`.
 #[derive(Clone, Copy, Debug, PartialEq, Eq)]
 pub struct TickAnswer {
     pub flag: bool,
     pub passed: Passed,
+    pub stores: Option<[RegisterStore; COUNTERS]>,
     pub reu: Reu,
     pub put: Put,
 }
 
 impl Step {
-    // A cycle that completes no byte reports neither.
+    // A cycle that ticks nothing reports neither, and has stored nothing.
     pub(crate) fn quiet(flag: bool) -> Step
-        ensures { result ≡ record { flag = flag; passed = neither } }
+        ensures { result ≡ record { flag = flag; passed = neither; stores = None } }
     {
         Step {
             flag,
             passed: Passed::NEITHER,
+            stores: None,
         }
     }
 }

@@ -1,48 +1,88 @@
-// One granted cycle of a transfer. A tick sees the two bytes at the transfer's place, and says what it writes.
+// One granted cycle of a transfer. A tick sees the two bytes at the transfer's place, and says what it writes and, where it ends a command
+// with Autoload, which registers it stores.
 //
 // The transfer, its bytes, the cycle and BA stay parameters of their own: each function is handed what it looks at, so that a store is seen to ask
 // for no cycle, and a read half for no BA.
 ghost use Rattle.std.specs.Prelude.{◌≡◌};
 ghost use Rattle.controller.specs.Answers.{step_of};
-ghost use Rattle.controller.specs.TickDma.{advance, swap_read, swap_write, tick_by_type, tick_dma, tick_of, tick_recall, tick_refresh, tick_running, tick_store, tick_swap, tick_tail, tick_verify, quiet_tick, with_error};
+ghost use Rattle.controller.specs.TickDma.{advance, ends, goes_on, shown_last, swap_read, swap_write, tick_by_type, tick_dma, tick_of, tick_recall, tick_refresh, tick_running, tick_store, tick_swap, tick_tail, tick_verify, quiet_tick, with_error};
 
 use crate::reu::{Answered, Reu, Step, TickAnswer};
 use regs::{STATUS_VERIFY_ERROR, marked};
 use transfer::{Completed, DmaState, Passed, Put, Seen, SwapPhase, TransferType};
 
 impl Reu {
-    // A byte is done, with what was written for it: the counters move and are shown.
+    fn with_error(mut self, error: bool) -> Reu
+        ensures { result ≡ with_error self error }
+    {
+        self.regs = marked(self.regs, STATUS_VERIFY_ERROR, error);
+        self
+    }
+
+    // A byte is done, and the command goes on: the counters are shown.
+    fn goes_on(self, passed: Passed, error: bool, next: DmaState, put: Put) -> TickAnswer
+        ensures { result ≡ goes_on self passed error next put }
+    {
+        let shown = self.with_error(error).publish_live_counters(next);
+        TickAnswer {
+            flag: true,
+            passed,
+            stores: None,
+            reu: shown.running(next),
+            put,
+        }
+    }
+
+    // What the end of a command finds: with Autoload no live counter is stored.
+    fn shown_last(self, next: DmaState) -> Reu
+        ensures { result ≡ shown_last self next }
+    {
+        if next.autoload {
+            self
+        } else {
+            self.publish_live_counters(next)
+        }
+    }
+
+    // A command ends. With Autoload `self` has the registers as they were before the step: whoever makes the stores that are handed out
+    // makes them on these.
+    fn ends(
+        self,
+        passed: Passed,
+        d: DmaState,
+        error: bool,
+        completed: bool,
+        put: Put,
+    ) -> TickAnswer
+        ensures { result ≡ ends self passed d error completed put }
+    {
+        TickAnswer {
+            flag: false,
+            passed,
+            stores: self.autoload_stores(d.autoload),
+            reu: self.with_error(error).finish_dma(completed),
+            put,
+        }
+    }
+
+    // A byte is done, with what was written for it: the counters move.
     #[tactic(auto, unfolding(crate::specs::TickDma::advance, transfer::specs::Dma::complete_byte))]
     fn advance(self, d: DmaState, error: bool, ba_low: bool, put: Put) -> TickAnswer
         ensures { result ≡ advance self d error ba_low put }
     {
         let Completed { done, passed, dma } = d.complete_byte();
-        let shown = self.publish_live_counters(dma);
-        let going_on = TickAnswer {
-            flag: true,
-            passed,
-            reu: shown.running(dma),
-            put,
-        };
         if error & (!done & (dma.remaining == 1)) {
-            return TickAnswer {
-                reu: shown.running(dma.with_tail()),
-                ..going_on
-            };
+            return self.goes_on(passed, error, dma.with_tail(), put);
         }
         if done | error {
             let swapped = d.transfer_type == TransferType::Swap;
             let last = Reu {
                 swap_release_pending: done & (swapped & !ba_low),
-                ..shown
+                ..self.shown_last(dma)
             };
-            return TickAnswer {
-                flag: false,
-                reu: last.finish_dma(dma, done),
-                ..going_on
-            };
+            return last.ends(passed, d, error, done, put);
         }
-        going_on
+        self.goes_on(passed, error, dma, put)
     }
 
     // A tick that completes no byte, and so reports neither.
@@ -52,6 +92,7 @@ impl Reu {
         TickAnswer {
             flag,
             passed: Passed::NEITHER,
+            stores: None,
             reu: self,
             put,
         }
@@ -102,20 +143,12 @@ impl Reu {
         }
     }
 
-    fn with_error(mut self, error: bool) -> Reu
-        ensures { result ≡ with_error self error }
-    {
-        self.regs = marked(self.regs, STATUS_VERIFY_ERROR, error);
-        self
-    }
-
     #[tactic(auto, unfolding(crate::specs::TickDma::tick_verify))]
     fn tick_verify(self, d: DmaState, seen: Seen, ba_low: bool) -> TickAnswer
         ensures { result ≡ tick_verify self d seen ba_low }
     {
         let error = seen.bus != seen.storage;
-        self.with_error(error)
-            .advance(d, error, ba_low, Put::Nothing)
+        self.advance(d, error, ba_low, Put::Nothing)
     }
 
     #[tactic(auto, unfolding(crate::specs::TickDma::tick_refresh))]
@@ -138,8 +171,8 @@ impl Reu {
     fn tick_tail(self, d: DmaState, seen: Seen) -> TickAnswer
         ensures { result ≡ tick_tail self d seen }
     {
-        self.finish_dma(d, seen.bus == seen.storage)
-            .quiet_tick(false, Put::Nothing)
+        let equal = seen.bus == seen.storage;
+        self.ends(Passed::NEITHER, d, false, equal, Put::Nothing)
     }
 
     #[tactic(auto, unfolding(crate::specs::TickDma::tick_by_type))]
@@ -196,9 +229,10 @@ impl Reu {
         };
         ticked.put.to_bus(bus);
         ticked.put.to_storage(self.size, storage);
-        ticked.reu.answered(Step {
+        ticked.reu.with_stores(ticked.stores).answered(Step {
             flag: ticked.flag,
             passed: ticked.passed,
+            stores: ticked.stores,
         })
     }
 }

@@ -1,9 +1,10 @@
 -- The visible counters, the interrupt, and what the end of a command leaves in the registers.
 use Rattle.std.specs.Prelude.{◌&&◌, ◌||◌, ◌∷◌}
-use Rattle.regs.specs.Prelude.{ℕ, Bool, cond, List, [], bit_or, set}
-use Rattle.transfer.specs.Constants.{status, command, c64_low, c64_high, exp_low, exp_high, exp_bank, length_low, length_high, interrupt_mask, verify_error, end_of_block, without_ff00, execute, enable_all}
-use Rattle.transfer.specs.Bytes.{bit, ones, set_bits, clear_bits, low_byte, high_byte, bank_byte}
+use Rattle.regs.specs.Prelude.{ℕ, Bool, cond, List, [], None, Some, bit_or, set}
+use Rattle.transfer.specs.Constants.{status, command, interrupt_mask, verify_error, end_of_block, without_ff00, execute, enable_all}
+use Rattle.transfer.specs.Bytes.{bit, ones, set_bits, clear_bits}
 use Rattle.regs.specs.Registers.{held}
+use Rattle.regs.specs.Stores.{Handed, counter_stores, made}
 
 -- an event is enabled, and so are all: "Mask bits 5, 6, 7 enable verify, end of block, all"
 abbrev pub irq_due : List ℕ → Bool
@@ -18,9 +19,7 @@ marked l bits event = cond event (set l status (bit_or (held l status) bits)) l
 
 -- "the seven address and length registers" from two addresses and a length
 abbrev pub counters : List ℕ → ℕ → ℕ → ℕ → List ℕ
-counters l c e n =
-    set (set (set (set (set (set (set l c64_low (low_byte c)) c64_high (high_byte c)) exp_low (low_byte e)) exp_high (high_byte e))
-    exp_bank (bank_byte e)) length_low (low_byte n)) length_high (high_byte n)
+counters l c e n = made (counter_stores c e n) l
 
 -- "Finish: bit 6 if the block ended; COMMAND AND $7F OR $10"
 abbrev pub finished_status : List ℕ → Bool → List ℕ
@@ -32,6 +31,7 @@ finished_command l = set l command (set_bits (without_ff00 ∷ []) (clear_bits (
 abbrev pub finished : List ℕ → Bool → List ℕ
 finished l ended = finished_command (finished_status l ended)
 
--- "with Autoload the seven .. registers come from the shadows": here c, e and n
-abbrev pub autoloaded : List ℕ → Bool → ℕ → ℕ → ℕ → List ℕ
-autoloaded l autoload c e n = cond autoload (counters l c e n) l
+-- "with Autoload the seven .. registers come from the shadows", here c, e and n. L5: "stores each of registers 2 to 8 once, in that order,
+-- with its shadow's byte"; "any other step hands out none"
+abbrev pub autoloaded : Bool → ℕ → ℕ → ℕ → Handed
+autoloaded autoload c e n = cond autoload (Some (counter_stores c e n)) None

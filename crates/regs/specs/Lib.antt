@@ -1,4 +1,5 @@
 pub mod Prelude
 pub mod Registers
 pub mod StartDma
+pub mod Stores
 pub mod FinishDma

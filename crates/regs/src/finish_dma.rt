@@ -12,6 +12,7 @@ use crate::constants::{
     INTERRUPT_VERIFY_ENABLE, REGISTER_COUNT, REU_ADDRESS_BANK, REU_ADDRESS_HIGH, REU_ADDRESS_LOW,
     STATUS, STATUS_END_OF_BLOCK, STATUS_VERIFY_ERROR, TRANSFER_LENGTH_HIGH, TRANSFER_LENGTH_LOW,
 };
+use crate::stores::{COUNTERS, RegisterStore, counter_stores};
 
 pub fn irq_due(regs: [u8; REGISTER_COUNT]) -> bool
     ensures { result ≡ irq_due regs }
@@ -66,18 +67,17 @@ pub fn finished(regs: [u8; REGISTER_COUNT], completed: bool) -> [u8; REGISTER_CO
     ended
 }
 
-// With Autoload the counters come from the shadows.
+// With Autoload registers 2 to 8 are stored from the shadows. What is stored is said here, and made by whoever asks.
 pub fn autoloaded(
-    regs: [u8; REGISTER_COUNT],
     autoload: bool,
     c64: u16,
     expansion: u32,
     length: u16,
-) -> [u8; REGISTER_COUNT]
-    ensures { result ≡ autoloaded regs autoload c64 expansion length }
+) -> Option<[RegisterStore; COUNTERS]>
+    ensures { result ≡ autoloaded autoload c64 expansion length }
 {
     if autoload {
-        return counters(regs, c64, expansion, u32::from(length));
+        return Some(counter_stores(c64, expansion, length));
     }
-    regs
+    None
 }

@@ -1,13 +1,15 @@
 // The eleven registers of the MOS 8726 expansion controller, as bytes: which one an address selects, what a byte of each holds, what a start
 // takes from them, and what a transfer and its end leave in them. Values alone, as in `transfer`.
 //
-// constants and registers are the original's files; start_dma and finish_dma have what these two of its functions do with registers.
+// constants and registers are the original's files; start_dma and finish_dma have what these two of its functions do with registers,
+// stores what a step hands out of it.
 #![tactic(auto)]
 
 mod constants;
 mod finish_dma;
 mod registers;
 mod start_dma;
+mod stores;
 
 pub use constants::{
     ADDRESS_CONTROL, ADDRESS_CONTROL_UNUSED_READ_HIGH, BANK_UNUSED_READ_HIGH, C64_ADDRESS_HIGH,
@@ -19,3 +21,4 @@ pub use constants::{
 pub use finish_dma::{autoloaded, counters, finished, irq_due, marked};
 pub use registers::{acknowledged, register_index, shown, with_bank, with_high, with_low};
 pub use start_dma::{length_of, requested};
+pub use stores::{COUNTERS, RegisterStore, made};
