@@ -28,18 +28,20 @@ use Rattle.transfer.specs.declared.timing.ReuBusAction.TheVariants.{Cpu, Hold, T
 use Rattle.transfer.specs.Constants.{new_size}
 use Rattle.transfer.specs.Bytes.{bit, word}
 use Rattle.controller.specs.Reu.{reg, set_reg, with_regs, with_armed, with_dma, with_history, with_repeat, with_release}
-use Rattle.transfer.specs.Dma.{with_latch, is_type, length_of, moved, recalled, is_first_byte, is_last_byte, seen_by}
+use Rattle.transfer.specs.declared.dma.Passed.{Passed}
+use Rattle.transfer.specs.Dma.{with_latch, is_type, length_of, moved, neither, recalled, is_first_byte, is_last_byte, seen_by}
 use Rattle.controller.specs.Registers.{read_register, write_register, write_command}
 use Rattle.transfer.specs.Memory.{is_size, next_c64, next_exp, put_bus, put_storage, zeros}
 use Rattle.controller.specs.Timing.{c64_access}
 use Rattle.transfer.specs.Timing.{reads, writes, read_again, restored, resumes, swap_reads, swap_writes}
 use Rattle.regs.specs.StartDma.{requested}
 use Rattle.controller.specs.StartDma.{start_dma, trigger_ff00}
-use Rattle.regs.specs.FinishDma.{irq_due, finished_command, autoloaded, finished}
-use Rattle.controller.specs.FinishDma.{update_irq, publish_live_counters, finish_dma}
+use Rattle.regs.specs.FinishDma.{irq_due, autoloaded, finished, finished_command}
+use Rattle.regs.specs.Stores.{listed, made}
+use Rattle.controller.specs.FinishDma.{update_irq, publish_live_counters, finish_dma, with_stores}
 use Rattle.controller.specs.Enable.{fresh, new_reu, set_size, set_enabled}
 use Rattle.controller.specs.BusAction.{repeated, plain, fall_on_read, fall_on_swap_write, fall_on_write, fall, decide, resumed, next_action, bus_action}
-use Rattle.controller.specs.TickDma.{advance, tick_store, tick_recall, swap_read, swap_write, tick_swap, differs, with_error, tick_verify, tick_by_type, tick_refresh, tick_tail, tick_running, tick_of, tick_dma}
+use Rattle.controller.specs.TickDma.{advance, ends, shown_last, tick_store, tick_recall, swap_read, swap_write, tick_swap, differs, with_error, tick_verify, tick_by_type, tick_refresh, tick_tail, tick_running, tick_of, tick_dma}
 use Rattle.controller.specs.Cycle.{counted, most_granted, cycle_by, run_reu_cycle}
 use Rattle.transfer.proofs.Pick.{by_test, fst, snd}
 use Rattle.transfer.proofs.Sizes.{size_512}
@@ -164,11 +166,12 @@ pub record SoundGrant (g : BusAnswer) : Type 0 where
 grant : {g : BusAnswer} → Sound g.reu → FitsPut g.put → SoundGrant g
 grant s p = record { sound = s; put = p }
 
+-- the controller with its stores made
 record SoundTick (t : TickAnswer) : Type 0 where
-  sound : Sound t.reu
+  sound : Sound (with_stores t.reu t.stores)
   put : FitsPut t.put
 
-tick : {t : TickAnswer} → Sound t.reu → FitsPut t.put → SoundTick t
+tick : {t : TickAnswer} → Sound (with_stores t.reu t.stores) → FitsPut t.put → SoundTick t
 tick s p = record { sound = s; put = p }
 
 again : (a : Bool) (d : Option DmaState) → SoundDma a d → SoundDma a (read_again d) × FitsPut (restored d)
@@ -216,24 +219,32 @@ sound_publish : (u : Reu) (d : DmaState) → Sound u → Sound (publish_live_cou
 unfolding publish_live_counters
 sound_publish u d s = with_regs_lem s (count_all d.c64_addr.0 d.reu_addr.0 d.remaining s.regs)
 
-autoloaded_regs : {k : Bool} (b : Bool) (c e n : ℕ) {l : List ℕ} → SoundRegs k l → SoundRegs k (autoloaded l b c e n)
-autoloaded_regs {k} b c e n r = by_test (SoundRegs k) b _ _ (λ _. count_all c e n r) (λ _. r)
+stored_regs : {k : Bool} (b : Bool) (c e n : ℕ) {l : List ℕ} → SoundRegs k l → SoundRegs k (made (listed (autoloaded b c e n)) l)
+stored_regs true c e n r = count_all c e n r
+stored_regs false c e n r = r
 
 finished_command_lem : {k : Bool} (l : List ℕ) → SoundRegs k l → SoundRegs k (finished_command l)
 finished_command_lem l r =
     store 1 r
     (plain_fits 1 refl (or_lt 8 (bit_and (get_or l 1 0) 127) 16 (and_byte (get_or l 1 0) 127 (r.fits 1).byte) (omega arith)))
 
-sound_finish : (u : Reu) (d : DmaState) (done : Bool) → Sound u → Sound (finish_dma u d done)
+sound_error : (u : Reu) (error : Bool) → Sound u → Sound (with_error u error)
+sound_error u error s = with_regs_lem s (raise 32 (omega arith) error s.regs)
+
+sound_finish : (u : Reu) (done : Bool) → Sound u → Sound (finish_dma u done)
 unfolding finish_dma
-sound_finish u d done s =
-    let l : List ℕ = autoloaded (finished u.regs done) d.autoload u.shadow_c64_addr u.shadow_reu_addr u.shadow_len in
-    sound_irq (with_dma (with_regs u l) None)
-    (with_dma_lem
-    (with_regs_lem s
-    (autoloaded_regs d.autoload u.shadow_c64_addr u.shadow_reu_addr u.shadow_len
-    (finished_command_lem _ (raise 64 (omega arith) done s.regs))))
-    tt)
+sound_finish u done s =
+    sound_irq (with_dma (with_regs u (finished u.regs done)) None)
+    (with_dma_lem (with_regs_lem s (finished_command_lem _ (raise 64 (omega arith) done s.regs))) tt)
+
+sound_ends : (u : Reu) (p : Passed) (d : DmaState) (error done : Bool) (put : Put) → Sound u → FitsPut put → SoundTick (ends u p d error done put)
+unfolding with_stores
+sound_ends u p d error done put s f =
+    let w = sound_finish (with_error u error) done (sound_error u error s) in
+    tick
+    (with_regs_lem w
+    (stored_regs d.autoload u.shadow_c64_addr u.shadow_reu_addr u.shadow_len w.regs))
+    f
 
 sound_moved : (att : Bool) (d : DmaState) → SoundTransfer att d → d.verify_tail ≡ false → SoundTransfer att (moved d)
 sound_moved att d h e =
@@ -253,10 +264,11 @@ sound_moved att d h e =
 -- an error is a verify's
 sound_advance : (u : Reu) (d : DmaState) (error low : Bool) (put : Put) → Sound u → SoundTransfer u.attached d → d.verify_tail ≡ false
     → (error ≡ true → is_type d.transfer_type Verify ≡ true) → FitsPut put → SoundTick (advance u d error low put)
-unfolding advance publish_live_counters
+unfolding advance publish_live_counters with_stores
 sound_advance u d error low put s h e v p =
     let mv = sound_moved u.attached d h e in
-    let pu = sound_publish u (moved d) s in
+    let pu = sound_publish (with_error u error) (moved d) (sound_error u error s) in
+    let last : Sound (shown_last u (moved d)) = by_test Sound d.autoload _ _ (λ _. s) (λ _. sound_publish u (moved d) s) in
     let left = (moved d).remaining in
     by_test SoundTick (error && (not (eqb d.remaining 1) && eqb left 1)) _ _
     (λ q.
@@ -264,7 +276,7 @@ sound_advance u d error low put s h e v p =
     let of-verify = v (fst error (not (eqb d.remaining 1) && eqb left 1) q) in
     tick (with_dma_lem pu (with_step_lem mv mv.latch refl (ap (λ (b : Bool). b && eqb left 1) of-verify ∙ snd (not (eqb d.remaining 1)) (eqb left 1) now))) p)
     (λ _. by_test SoundTick (eqb d.remaining 1 || error) _ _
-    (λ _. tick (sound_finish (with_release (publish_live_counters u (moved d)) (eqb d.remaining 1 && (is_type d.transfer_type Swap && not low))) (moved d) (eqb d.remaining 1) pu) p)
+    (λ _. sound_ends (with_release (shown_last u (moved d)) (eqb d.remaining 1 && (is_type d.transfer_type Swap && not low))) _ d error (eqb d.remaining 1) put last p)
     (λ _. tick (with_dma_lem pu mv) p))
 
 never : {A : Type 0} → false ≡ true → A
@@ -273,7 +285,7 @@ never e = absurd (let z : ◌≡◌ {A = ℕ} 0 1 = cc in omega arith)
 module _ (u : Reu) (d : DmaState) (b : Seen) (s : Sound u) (h : SoundTransfer u.attached d) (see : FitsSeen b) where
   module _ (e : d.verify_tail ≡ false) (cycle : ℕ) (low : Bool) where
     sound_by_phase : (p : SwapPhase) → d.transfer_type ≡ Swap → SoundTick (tick_swap p u d b cycle low)
-    unfolding tick_swap swap_read swap_write
+    unfolding tick_swap swap_read swap_write with_stores
     sound_by_phase ReadC64 et = tick (with_dma_lem s (with_step_lem h see.1 (ap (λ (t : TransferType). is_type t Swap) et) h.tail)) see.0
     sound_by_phase WriteC64 et = sound_advance u d false low _ s h e never h.latch
 
@@ -286,18 +298,17 @@ module _ (u : Reu) (d : DmaState) (b : Seen) (s : Sound u) (h : SoundTransfer u.
         sound_advance (with_repeat u (u.recall_repeat && d.first_byte)) (with_latch d (recalled d u.recall_repeat b)) false low _ s (with_step_lem h v h.phase h.tail) e never v
     sound_by_type Swap et = sound_by_phase d.swap_phase et
     sound_by_type Verify et =
-        sound_advance (with_error u (differs b)) d (differs b) low Nothing (with_regs_lem s (raise 32 (omega arith) (differs b) s.regs)) h e
-        (λ _. ap (λ (t : TransferType). is_type t Verify) et) tt
+        sound_advance u d (differs b) low Nothing s h e (λ _. ap (λ (t : TransferType). is_type t Verify) et) tt
 
   sound_running : (cycle : ℕ) (low : Bool) → SoundTick (tick_running u d b cycle low)
-  unfolding tick_running tick_refresh tick_tail
+  unfolding tick_running tick_refresh tick_tail with_stores
   sound_running cycle low =
       by_test SoundTick u.swap_refresh _ _ (λ _. tick (with_dma_lem s h) see.0)
-      (λ _. by_test SoundTick d.verify_tail _ _ (λ _. tick (sound_finish u d (not (differs b)) s) tt)
+      (λ _. by_test SoundTick d.verify_tail _ _ (λ _. sound_ends u neither d false (not (differs b)) Nothing s tt)
       (λ e. sound_by_type e cycle low d.transfer_type refl))
 
 sound_of_dma : (x : Option DmaState) (u : Reu) (b : Seen) (cycle : ℕ) (low : Bool) → Sound u → SoundDma u.attached x → FitsSeen b → SoundTick (tick_of x u b cycle low)
-unfolding tick_of
+unfolding tick_of with_stores
 sound_of_dma None u b cycle low s h see = tick s tt
 sound_of_dma (Some d) u b cycle low s h see =
     by_test SoundTick u.attached _ _ (λ _. sound_running u d b s h see cycle low) (λ _. tick (with_dma_lem s tt) tt)
