@@ -1,11 +1,12 @@
 -- What a call of each family is, by what opening the image i gave: a refusal, or a controller u.
-use Rattle.std.proofs.Common.{◌≡◌, ℕ, true, false, List, length, sym, ap, ◌∙◌, subst, refl, arith, eqb, eqb-true, ne_eqb, Bool, cond, Fits, w8}
+use Rattle.std.proofs.Common.{◌≡◌, ℕ, true, false, List, length, sym, ap, ap₂, ◌∙◌, subst, refl, arith, eqb, eqb-true, ne_eqb, Bool, cond, Fits, w8}
 use borrow.Author.Tests.{eqb-false}
 use Rattle.controller.specs.Enable.{new_reu}
 use Rattle.image.specs.Open.{store_image}
 use Rattle.image.proofs.Opening.{store_good, store_other}
 use Rattle.image.proofs.SoundCalls.{sound_new}
-use Rattle.std.specs.Prelude.{Result, Ok, Err, get_or}
+use Rattle.std.specs.Prelude.{None, Result, Ok, Err, get_or}
+use Rattle.regs.specs.Stores.{Handed}
 use Rattle.controller.specs.declared.refusals.Refusal.{Refusal}
 use Rattle.controller.specs.declared.reu.Answered.{Answered}
 use Rattle.controller.specs.declared.reu.Step.{Step}
@@ -23,6 +24,7 @@ use Rattle.image.specs.Layout.{image_size, pack_image}
 use Rattle.reu.specs.Exports.{refusal, reu_new, code, image_after, changed, changed_storage, changed_both, look, change, change_storage, change_both}
 use Rattle.controller.specs.Refusals.{well_formed}
 use Rattle.reu.specs.Inner.{value_of, ended, Kept, Left}
+use Rattle.reu.specs.Logged.{logged, logged_both, stores_by}
 
 -- the bytes of a slice are bytes
 pub bytes_of : (s : List ℕ) → ((j : ℕ) → Fits w8 (get_or s j 0)) → Bytes s
@@ -47,10 +49,13 @@ module _ (i : List ℕ) where
     storage_refused s f x q =
         not_done (refusal_number e) _ number (λ n. (refusal n, i, s)) (x, i, s) _ (refusal_some e) (ap (λ (n : ℕ). (n, i, s)) q)
 
-    pub both_refused : (m s : List ℕ) (f : Reu → List ℕ → List ℕ → Ticked) (x : ℕ) → x ≡ refusal (refusal_number e) → (x, i, m, s) ≡ change_both f i m s
-    unfolding change_both
+    pub both_refused : (m s : List ℕ) (f : Reu → List ℕ → List ℕ → Ticked) (x : ℕ) → x ≡ refusal (refusal_number e)
+        → (record { answer = x; stores = None }, i, m, s) ≡ logged_both f i m s
+    unfolding change_both stores_by
     both_refused m s f x q =
-        not_done (refusal_number e) _ number (λ n. (refusal n, i, m, s)) (x, i, m, s) _ (refusal_some e) (ap (λ (n : ℕ). (n, i, m, s)) q)
+        ap₂ logged
+        (not_done (refusal_number e) _ number (λ n. (refusal n, i, m, s)) (x, i, m, s) _ (refusal_some e) (ap (λ (n : ℕ). (n, i, m, s)) q))
+        (not_done (refusal_number e) _ number (λ n. None) None _ (refusal_some e) refl)
 
   -- ---- done: r is what the call on the controller answered
   module _ (u : Reu) (h : opened (Ok u) ≡ open_image i) where
@@ -89,14 +94,17 @@ module _ (i : List ℕ) where
         (ap (λ (y : ℕ × List ℕ). (y.0, y.1, t)) (hx ∙ ended_is r) ∙ ap (λ (b : Answer × List ℕ). changed_storage b i) ha
         ∙ ap (λ (y : Opened). changed_storage (f y.reu s) i) h)
 
-    -- n is the answer with its value as a number
-    pub both_done : (m s b t : List ℕ) (f : Reu → List ℕ → List ℕ → Ticked) (r : Result (Answered Step) Refusal) (n : Result (Answered ℕ) Refusal) (x : ℕ) (j : List ℕ)
-        → (step_answer_of u r, b, t) ≡ f u m s → answer_of u n ≡ numbered (step_answer_of u r) → (x, j) ≡ ended n i → (x, j, b, t) ≡ change_both f i m s
-    unfolding change_both
-    both_done m s b t f r n x j ha hn hx =
-        done 0 _ accepted (λ n. (refusal n, i, m, s)) (x, j, b, t) _ refl
+    -- n is the answer with its value as a number, l its stores
+    pub both_done : (m s b t : List ℕ) (f : Reu → List ℕ → List ℕ → Ticked) (r : Result (Answered Step) Refusal) (n : Result (Answered ℕ) Refusal) (l : Handed) (x : ℕ) (j : List ℕ)
+        → (step_answer_of u r, b, t) ≡ f u m s → answer_of u n ≡ numbered (step_answer_of u r) → l ≡ (step_answer_of u r).stores → (x, j) ≡ ended n i
+        → (record { answer = x; stores = l }, j, b, t) ≡ logged_both f i m s
+    unfolding change_both stores_by
+    both_done m s b t f r n l x j ha hn hl hx =
+        ap₂ logged
+        (done 0 _ accepted (λ n. (refusal n, i, m, s)) (x, j, b, t) _ refl
         (ap (λ (y : ℕ × List ℕ). (y.0, y.1, b, t)) (hx ∙ ended_is n ∙ ap (λ (y : Answer). changed y i) hn) ∙ ap (λ (y : Ticked). changed_both y i) ha
-        ∙ ap (λ (y : Opened). changed_both (f y.reu m s) i) h)
+        ∙ ap (λ (y : Opened). changed_both (f y.reu m s) i) h))
+        (done 0 _ accepted (λ n. None) l _ refl (hl ∙ ap (λ (y : Ticked). y.0.stores) ha ∙ ap (λ (y : Opened). (f y.reu m s).0.stores) h))
 
     -- what is left can be stored
     pub sound : Bytes i → Sound u

@@ -9,9 +9,11 @@ ghost use Rattle.controller.specs.Calls.{numbered};
 ghost use Rattle.controller.specs.TickDma.{Ticked};
 ghost use Rattle.controller.specs.declared.reu.Reu.{Reu};
 ghost use Rattle.reu.specs.Exports.{change, change_both, change_storage, look, refusal, reu_bus_action, reu_c64_access, reu_capacity_bytes, reu_cpu_ready, reu_cycle, reu_debug_register, reu_dma_active, reu_new, reu_read, reu_reset, reu_set_enabled, reu_set_size, reu_storage_present, reu_tick_dma, reu_trigger_ff00, reu_write};
+ghost use Rattle.reu.specs.Logged.{logged_both, logged_cycle};
 ghost use Rattle.reu.specs.Inner.{Gives, GivesBoth, GivesStored, Keeps, KeepsBoth, KeepsStored, Kept, ended, value_of};
 
 use controller::{Answered, Refusal, Reu, Step};
+use regs::{COUNTERS, RegisterStore};
 
 // An answer is this times the refusal number, or a value.
 const REFUSAL_UNIT: u32 = 16_777_216;
@@ -66,20 +68,36 @@ fn change_storage<F: FnOnce(Reu, &mut [u8]) -> Result<Answered<u32>, Refusal>>(
     }
 }
 
-// And of one that is lent bus and storage.
+// What a call that is lent bus and storage answers, and which registers it has stored, in their order, where it ended a command with Autoload.
+#[derive(Clone, Copy, Debug, PartialEq, Eq)]
+pub struct Logged {
+    pub answer: u32,
+    pub stores: Option<[RegisterStore; COUNTERS]>,
+}
+
+// And of one that is lent bus and storage, with its stores.
 fn change_both<F: FnOnce(Reu, &mut [u8], &mut [u8]) -> Result<Answered<Step>, Refusal>>(
     image: &mut [u8],
     bus: &mut [u8],
     storage: &mut [u8],
     call: F,
-) -> u32
+) -> Logged
     requires callable { F.IsAlwaysCallable call }
     requires keeps { KeepsBoth F.post call }
-    ensures { (f : Reu → List ℕ → List ℕ → Ticked) → GivesBoth F.post call f → (result, image.new, bus.new, storage.new) ≡ change_both f image.old bus.old storage.old }
+    ensures { (f : Reu → List ℕ → List ℕ → Ticked) → GivesBoth F.post call f → (result, image.new, bus.new, storage.new) ≡ logged_both f image.old bus.old storage.old }
 {
     match image::open(image) {
-        Ok(reu) => finish(image, numbered(call(reu, bus, storage))),
-        Err(reason) => refused(reason),
+        Ok(reu) => {
+            let answer = call(reu, bus, storage);
+            Logged {
+                stores: handed(answer),
+                answer: finish(image, numbered(answer)),
+            }
+        }
+        Err(reason) => Logged {
+            answer: refused(reason),
+            stores: None,
+        },
     }
 }
 
@@ -107,6 +125,13 @@ fn finish(image: &mut [u8], answer: Result<Answered<u32>, Refusal>) -> u32
         },
         Err(reason) => refused(reason),
     }
+}
+
+// The stores that a step hands out; a refused one has none.
+fn handed(answer: Result<Answered<Step>, Refusal>) -> Option<[RegisterStore; COUNTERS]>
+    ensures { (u : Reu) → result ≡ (step_answer_of u answer).stores }
+{
+    answer.map_or(None, |done| done.value.stores)
 }
 
 // A step's answer with its value as a number.
@@ -249,6 +274,26 @@ pub extern "C" fn reu_tick_dma(
     change_both(image, bus, storage, |reu, bus, storage| {
         reu.tick_dma(bus, storage, cycle, ba_low != 0)
     })
+    .answer
+}
+
+// The cycle for a host in Rattle that keeps a log: `reu_run_reu_cycle` with the stores that the controller hands out.
+pub fn logged_cycle(
+    image: &mut [u8],
+    bus: &mut [u8],
+    storage: &mut [u8],
+    ba_high: u32,
+    cycle: u64,
+    ba_low: u32,
+    ba_high_phi1: u32,
+) -> Logged
+    ensures { (result, image.new, bus.new, storage.new) ≡ logged_cycle image.old bus.old storage.old ba_high cycle ba_low ba_high_phi1 }
+{
+    let high = ba_high != 0;
+    let high_phi1 = ba_high_phi1 != 0;
+    change_both(image, bus, storage, |reu, bus, storage| {
+        reu.run_reu_cycle(bus, storage, high, high_phi1, cycle, ba_low != 0)
+    })
 }
 
 #[unsafe(no_mangle)]
@@ -263,9 +308,5 @@ pub extern "C" fn reu_run_reu_cycle(
 ) -> u32
     ensures { (result, image.new, bus.new, storage.new) ≡ reu_cycle image.old bus.old storage.old ba_high cycle ba_low ba_high_phi1 }
 {
-    let high = ba_high != 0;
-    let high_phi1 = ba_high_phi1 != 0;
-    change_both(image, bus, storage, |reu, bus, storage| {
-        reu.run_reu_cycle(bus, storage, high, high_phi1, cycle, ba_low != 0)
-    })
+    logged_cycle(image, bus, storage, ba_high, cycle, ba_low, ba_high_phi1).answer
 }

@@ -1,7 +1,7 @@
 use Rattle.std.proofs.Common.{rules}
 use Rattle.reu.specs.Exports.{flag}
 use Rattle.reu.proofs.Keeping.{cycle_keeps}
-use Rattle.reu.proofs.reu_run_reu_cycle.Goals as goal
+use Rattle.reu.proofs.logged_cycle.Goals as goal
 
 pub change_both-requires-clause-keeps : goal.change_both-requires-clause-keeps
 change_both-requires-clause-keeps c =
