@@ -7,3 +7,4 @@ pub mod GrantedCycles
 pub mod PassedTop
 pub mod RemainingBytes
 pub mod ChipSize
+pub mod AutoloadStores

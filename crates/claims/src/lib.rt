@@ -1,7 +1,8 @@
-// The claims about whole runs of the exported calls, one about bytes completed one after another, and those about saved machines. Each function does
-// nothing: its `ensures` is the claim.
+// The claims about whole runs of the exported calls, one about bytes completed one after another, one about the stores of a step, and those about
+// saved machines. Each function does nothing: its `ensures` is the claim.
 #![tactic(auto)]
 
+ghost use Rattle.claims.specs.AutoloadStores.{AutoloadStores};
 ghost use Rattle.claims.specs.ChipSize.{ChipSize};
 ghost use Rattle.claims.specs.GrantedCycles.{GrantedCycles};
 ghost use Rattle.claims.specs.PassedTop.{PassedTop};
@@ -50,4 +51,10 @@ pub fn remaining_bytes()
 // STATUS its mark.
 pub fn chip_size()
     ensures { ChipSize }
+{}
+
+// A step that ends a command with Autoload hands out registers 2 to 8 in that order with their shadows' bytes, and any other none; made on the registers
+// before, they give registers 2 to 8 after.
+pub fn autoload_stores()
+    ensures { AutoloadStores }
 {}
