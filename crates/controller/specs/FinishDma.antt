@@ -24,5 +24,5 @@ abbrev pub autoload_stores : Reu → Bool → Handed
 autoload_stores u autoload = autoloaded autoload u.shadow_c64_addr u.shadow_reu_addr u.shadow_len
 
 -- a controller whose registers are stored
-unfoldable pub with_stores : Reu → Handed → Reu
+abbrev pub with_stores : Reu → Handed → Reu
 with_stores u x = with_regs u (made (listed x) u.regs)

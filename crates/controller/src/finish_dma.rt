@@ -53,7 +53,6 @@ impl Reu {
         )
     }
 
-    #[tactic(auto, unfolding(crate::specs::FinishDma::with_stores))]
     pub(crate) fn with_stores(mut self, stores: Option<[RegisterStore; COUNTERS]>) -> Reu
         ensures { result ≡ with_stores self stores }
     {

@@ -46,14 +46,7 @@ impl Reu {
 
     // A command ends. With Autoload `self` has the registers as they were before the step: whoever makes the stores that are handed out
     // makes them on these.
-    fn ends(
-        self,
-        passed: Passed,
-        d: DmaState,
-        error: bool,
-        completed: bool,
-        put: Put,
-    ) -> TickAnswer
+    fn ends(self, passed: Passed, d: DmaState, error: bool, completed: bool, put: Put) -> TickAnswer
         ensures { result ≡ ends self passed d error completed put }
     {
         TickAnswer {

@@ -238,7 +238,6 @@ sound_finish u done s =
     (with_dma_lem (with_regs_lem s (finished_command_lem _ (raise 64 (omega arith) done s.regs))) tt)
 
 sound_ends : (u : Reu) (p : Passed) (d : DmaState) (error done : Bool) (put : Put) → Sound u → FitsPut put → SoundTick (ends u p d error done put)
-unfolding with_stores
 sound_ends u p d error done put s f =
     let w = sound_finish (with_error u error) done (sound_error u error s) in
     tick
@@ -264,7 +263,7 @@ sound_moved att d h e =
 -- an error is a verify's
 sound_advance : (u : Reu) (d : DmaState) (error low : Bool) (put : Put) → Sound u → SoundTransfer u.attached d → d.verify_tail ≡ false
     → (error ≡ true → is_type d.transfer_type Verify ≡ true) → FitsPut put → SoundTick (advance u d error low put)
-unfolding advance publish_live_counters with_stores
+unfolding advance publish_live_counters
 sound_advance u d error low put s h e v p =
     let mv = sound_moved u.attached d h e in
     let pu = sound_publish (with_error u error) (moved d) (sound_error u error s) in
@@ -285,7 +284,7 @@ never e = absurd (let z : ◌≡◌ {A = ℕ} 0 1 = cc in omega arith)
 module _ (u : Reu) (d : DmaState) (b : Seen) (s : Sound u) (h : SoundTransfer u.attached d) (see : FitsSeen b) where
   module _ (e : d.verify_tail ≡ false) (cycle : ℕ) (low : Bool) where
     sound_by_phase : (p : SwapPhase) → d.transfer_type ≡ Swap → SoundTick (tick_swap p u d b cycle low)
-    unfolding tick_swap swap_read swap_write with_stores
+    unfolding tick_swap swap_read swap_write
     sound_by_phase ReadC64 et = tick (with_dma_lem s (with_step_lem h see.1 (ap (λ (t : TransferType). is_type t Swap) et) h.tail)) see.0
     sound_by_phase WriteC64 et = sound_advance u d false low _ s h e never h.latch
 
@@ -301,14 +300,14 @@ module _ (u : Reu) (d : DmaState) (b : Seen) (s : Sound u) (h : SoundTransfer u.
         sound_advance u d (differs b) low Nothing s h e (λ _. ap (λ (t : TransferType). is_type t Verify) et) tt
 
   sound_running : (cycle : ℕ) (low : Bool) → SoundTick (tick_running u d b cycle low)
-  unfolding tick_running tick_refresh tick_tail with_stores
+  unfolding tick_running tick_refresh tick_tail
   sound_running cycle low =
       by_test SoundTick u.swap_refresh _ _ (λ _. tick (with_dma_lem s h) see.0)
       (λ _. by_test SoundTick d.verify_tail _ _ (λ _. sound_ends u neither d false (not (differs b)) Nothing s tt)
       (λ e. sound_by_type e cycle low d.transfer_type refl))
 
 sound_of_dma : (x : Option DmaState) (u : Reu) (b : Seen) (cycle : ℕ) (low : Bool) → Sound u → SoundDma u.attached x → FitsSeen b → SoundTick (tick_of x u b cycle low)
-unfolding tick_of with_stores
+unfolding tick_of
 sound_of_dma None u b cycle low s h see = tick s tt
 sound_of_dma (Some d) u b cycle low s h see =
     by_test SoundTick u.attached _ _ (λ _. sound_running u d b s h see cycle low) (λ _. tick (with_dma_lem s tt) tt)
