@@ -26,9 +26,11 @@ use Rattle.controller.specs.Timing.{c64_access}
 use Rattle.transfer.specs.Timing.{action_for_cycle}
 use Rattle.transfer.specs.Dma.{moved, neither}
 use Rattle.regs.specs.FinishDma.{irq_due, counters, finished_status, finished, autoloaded}
+use Rattle.regs.specs.Stores.{listed, made}
 use Rattle.controller.specs.FinishDma.{publish_live_counters, finish_dma, update_irq}
 use Rattle.controller.specs.BusAction.{bus_action, next_action, granted, decide, fall, plain, repeated}
-use Rattle.controller.specs.TickDma.{Ticked, ticked, tick_dma, tick_of, tick_running, tick_by_type, tick_swap, swap_read, swap_write, advance}
+use Rattle.controller.specs.TickDma.{Ticked, ticked, tick_dma, tick_of, tick_running, tick_by_type, tick_swap, swap_read, swap_write, shown_last, advance}
+use Rattle.transfer.proofs.Pick.{by_test}
 use Rattle.controller.specs.Cycle.{run_reu_cycle, counted, cycle_by}
 
 -- whoever unfolds this unfolds all that a cycle of a swap computes
@@ -201,7 +203,7 @@ irq_list : (l : List ℕ) (v : ℕ) (b : Bool) (i : ℕ) → i ≢ 0 → get_or 
 irq_list l v true i h = get_or-set_other l 0 i v 0 h
 irq_list l v false i h = refl
 
-auto_list : (l : List ℕ) (c e n : ℕ) (b : Bool) (i : ℕ) → (i < 2) ⊎ (8 < i) → get_or (cond b (counters l c e n) l) i 0 ≡ get_or l i 0
+auto_list : (l : List ℕ) (c e n : ℕ) (b : Bool) (i : ℕ) → (i < 2) ⊎ (8 < i) → get_or (made (listed (autoloaded b c e n)) l) i 0 ≡ get_or l i 0
 auto_list l c e n true i h = other_counters l c e n i h
 auto_list l c e n false i h = refl
 
@@ -209,36 +211,41 @@ status_length : (l : List ℕ) (done : Bool) → length (finished_status l done)
 status_length l true = simp length-set
 status_length l false = refl
 
--- the registers when a command ends, before the interrupt
-abbrev loaded : Reu → DmaState → Bool → List ℕ
-loaded u d done = autoloaded (finished u.regs done) d.autoload u.shadow_c64_addr u.shadow_reu_addr u.shadow_len
-
-finish_other : (u : Reu) (d : DmaState) (done : Bool) (i : ℕ) → i ≢ 0 → (i < 2) ⊎ (8 < i) → reg (finish_dma u d done) i ≡ get_or (finished u.regs done) i 0
+finish_other : (u : Reu) (done : Bool) (i : ℕ) → i ≢ 0 → reg (finish_dma u done) i ≡ get_or (finished u.regs done) i 0
 unfolding finish_dma update_irq
-finish_other u d done i h k =
-    irq_list (loaded u d done) (bit_or (get_or (loaded u d done) 0 0) 128) (irq_due (loaded u d done)) i h
-    ∙ auto_list (finished u.regs done) u.shadow_c64_addr u.shadow_reu_addr u.shadow_len d.autoload i k
+finish_other u done i h = irq_list (finished u.regs done) (bit_or (get_or (finished u.regs done) 0 0) 128) (irq_due (finished u.regs done)) i h
 
-finish_command : (u : Reu) (d : DmaState) (done : Bool) → 1 < length u.regs
-    → reg (finish_dma u d done) 1 ≡ bit_or (bit_and (reg u 1) 127) 16
-finish_command u d done h =
-    finish_other u d done 1 (omega arith) (inl (omega arith))
+finish_command : (u : Reu) (done : Bool) → 1 < length u.regs → reg (finish_dma u done) 1 ≡ bit_or (bit_and (reg u 1) 127) 16
+finish_command u done h =
+    finish_other u done 1 (omega arith)
     ∙ get_or-set_same (finished_status u.regs done) 1 (bit_or (bit_and (get_or (finished_status u.regs done) 1 0) 127) 16) 0 (omega (arith, status_length u.regs done))
     ∙ ap (λ (x : ℕ). bit_or (bit_and x 127) 16) (irq_list u.regs (bit_or (reg u 0) 64) done 1 (omega arith))
 
-finish_control : (u : Reu) (d : DmaState) (done : Bool) → reg (finish_dma u d done) 10 ≡ reg u 10
-finish_control u d done =
-    finish_other u d done 10 (omega arith) (inr (omega arith))
+finish_control : (u : Reu) (done : Bool) → reg (finish_dma u done) 10 ≡ reg u 10
+finish_control u done =
+    finish_other u done 10 (omega arith)
     ∙ get_or-set_other (finished_status u.regs done) 1 10 (bit_or (bit_and (get_or (finished_status u.regs done) 1 0) 127) 16) 0 (omega arith)
     ∙ irq_list u.regs (bit_or (reg u 0) 64) done 10 (omega arith)
 
-finish_quiet : (u : Reu) (d : DmaState) (done : Bool) → u.terminal_swap_write ≡ false → u.swap_read_delay ≡ 0
-    → u.attached ≡ true → Quiet (finish_dma u d done)
+finish_quiet : (u : Reu) (done : Bool) → u.terminal_swap_write ≡ false → u.swap_read_delay ≡ 0 → u.attached ≡ true
+    → Quiet (finish_dma u done)
 unfolding finish_dma update_irq
-finish_quiet u d done t w a = record { terminal = t; delay = w; attached = a; idle = refl }
+finish_quiet u done t w a = record { terminal = t; delay = w; attached = a; idle = refl }
 
-counters_length : (l : List ℕ) (c e n : ℕ) → length (counters l c e n) ≡ length l
-counters_length l c e n = simp length-set
+-- what the end of a command finds: its counters shown or not, and all else as it was
+record Found (u w : Reu) : Type 0 where
+  long : length w.regs ≡ length u.regs
+  other : (i : ℕ) → (i < 2) ⊎ (8 < i) → reg w i ≡ reg u i
+  terminal : w.terminal_swap_write ≡ u.terminal_swap_write
+  delay : w.swap_read_delay ≡ u.swap_read_delay
+  attached : w.attached ≡ u.attached
+
+found : (u : Reu) (d : DmaState) → Found u (shown_last u d)
+unfolding publish_live_counters
+found u d =
+    by_test (Found u) d.autoload _ _
+    (λ _. record { long = refl; other = λ i h. refl; terminal = refl; delay = refl; attached = refl })
+    (λ _. record { long = simp length-set; other = λ i h. other_counters u.regs d.c64_addr.0 d.reu_addr.0 d.remaining i h; terminal = refl; delay = refl; attached = refl })
 
 last_ready : (u : Reu) (c e l : ℕ) (auto one odd : Bool) (m s : List ℕ) (n : ℕ) (low : Bool) → length u.regs ≡ 11
     → LastStep u c l m s
@@ -251,20 +258,28 @@ last_ready u c e l auto one odd m s n low len =
       bus = refl;
       storage = refl;
       command =
-          finish_command v d true (omega (arith, counters_length u.regs ((c + 1) % 65536) ((e + 1) % 16777216) 1))
-          ∙ ap (λ (x : ℕ). bit_or (bit_and x 127) 16) (other_counters u.regs ((c + 1) % 65536) ((e + 1) % 16777216) 1 1 (inl (omega arith)));
-      control = finish_control v d true ∙ other_counters u.regs ((c + 1) % 65536) ((e + 1) % 16777216) 1 10 (inr (omega arith));
+          auto_list (finish_dma w true).regs w.shadow_c64_addr w.shadow_reu_addr w.shadow_len auto 1 (inl (omega arith))
+          ∙ finish_command w true (omega (arith, f.long)) ∙ ap (λ (x : ℕ). bit_or (bit_and x 127) 16) (f.other 1 (inl (omega arith)));
+      control =
+          auto_list (finish_dma w true).regs w.shadow_c64_addr w.shadow_reu_addr w.shadow_len auto 10 (inr (omega arith))
+          ∙ finish_control w true ∙ f.other 10 (inr (omega arith));
       quiet = record { terminal = q.terminal; delay = q.delay; attached = q.attached; idle = q.idle };
     }
   where
+    v : Reu
+    v = with_history (ready u false false 0 true true (Some (swap_state WriteC64 c e 1 l auto one odd))) true false
+
     d : DmaState
     d = moved (swap_state WriteC64 c e 1 l auto one odd)
 
-    v : Reu
-    v = with_release (publish_live_counters (with_history (ready u false false 0 true true (Some (swap_state WriteC64 c e 1 l auto one odd))) true false) d) (not low)
+    w : Reu
+    w = with_release (shown_last v d) (not low)
 
-    q : Quiet (finish_dma v d true)
-    q = finish_quiet v d true refl refl refl
+    f : Found v (shown_last v d)
+    f = found v d
+
+    q : Quiet (finish_dma w true)
+    q = finish_quiet w true f.terminal f.delay f.attached
 
 pub last_step : (u : Reu) (c e l : ℕ) → Writing u c e 1 l → length u.regs ≡ 11 → (m s : List ℕ) (n : ℕ) (low : Bool)
     → LastStep u c l m s (run_reu_cycle u m s true true n low) (bus_action u s true true n).0.action
@@ -293,7 +308,7 @@ pub record IdleStep (u : Reu) (m s : List ℕ) (t : Ticked) : Type 0 where
 -- other flags, another delay, another count of granted cycles, and no transfer
 still : {answer waiting was repeat terminal late refresh release : Bool} {delay count : ℕ} (u : Reu) (m s : List ℕ)
     → IdleStep u m s (
-      ticked answer neither
+      ticked answer neither None
           (record u {
             waiting_ff00 = waiting;
             ba_was_high = was;

@@ -33,7 +33,7 @@ use Rattle.controller.specs.StartDma.{start_dma, trigger_ff00}
 use Rattle.controller.specs.FinishDma.{publish_live_counters, finish_dma, update_irq}
 use Rattle.controller.specs.Enable.{set_enabled}
 use Rattle.controller.specs.BusAction.{bus_action, next_action, decide, fall, fall_on_read, fall_on_swap_write, fall_on_write, plain, repeated, resumed}
-use Rattle.controller.specs.TickDma.{tick_dma, tick_of, tick_running, tick_by_type, tick_store, tick_recall, tick_swap, tick_verify, tick_tail, swap_read, swap_write, tick_refresh, advance, differs, with_error}
+use Rattle.controller.specs.TickDma.{tick_dma, tick_of, tick_running, tick_by_type, tick_store, tick_recall, tick_swap, tick_verify, tick_tail, swap_read, swap_write, tick_refresh, advance, shown_last}
 use Rattle.controller.specs.Cycle.{run_reu_cycle, capped, counted, cycle_by}
 
 -- the count and the size, of a controller and of an answer that carries one
@@ -115,11 +115,15 @@ grant_keeps u s high phi1 cycle =
 
 -- ---- a tick
 
+shown_kept : (u : Reu) (d : DmaState) → Keeps of (of u) (shown_last u d)
+unfolding publish_live_counters
+shown_kept u d = either d.autoload (kept refl) (kept refl)
+
 advance_kept : (u : Reu) (d : DmaState) (error low : Bool) (put : Put) → Keeps of_tick (of u) (advance u d error low put)
 unfolding advance publish_live_counters finish_dma update_irq
 advance_kept u d error low put =
     either (error && (not (eqb d.remaining 1) && eqb (moved d).remaining 1)) (kept refl)
-    (either (eqb d.remaining 1 || error) (kept refl) (kept refl))
+    (either (eqb d.remaining 1 || error) (kept (shown_kept u (moved d)).same) (kept refl))
 
 swap_kept : (p : SwapPhase) (u : Reu) (d : DmaState) (b : Seen) (cycle : ℕ) (low : Bool) → Keeps of_tick (of u) (tick_swap p u d b cycle low)
 unfolding tick_swap swap_read swap_write
@@ -131,7 +135,7 @@ unfolding tick_by_type tick_store tick_recall tick_verify
 type_kept Store u d b cycle low = advance_kept u d _ _ _
 type_kept Recall u d b cycle low = advance_kept (with_repeat u (u.recall_repeat && d.first_byte)) _ _ _ _
 type_kept Swap u d b cycle low = swap_kept d.swap_phase u d b cycle low
-type_kept Verify u d b cycle low = advance_kept (with_error u (differs b)) d _ _ _
+type_kept Verify u d b cycle low = advance_kept u d _ _ _
 
 running_kept : (u : Reu) (d : DmaState) (b : Seen) (cycle : ℕ) (low : Bool) → Keeps of_tick (of u) (tick_running u d b cycle low)
 unfolding tick_running tick_refresh tick_tail finish_dma update_irq

@@ -18,13 +18,13 @@ use Rattle.transfer.specs.Dma.{with_tail}
 use Rattle.controller.specs.Registers.{read_register, write_register, write_command, debug_register as core_debug_register}
 use Rattle.controller.specs.Timing.{c64_access as core_c64_access}
 use Rattle.transfer.specs.Timing.{action_for_cycle}
-use Rattle.transfer.specs.Dma.{moved, type_of, length_of}
+use Rattle.transfer.specs.Dma.{moved, neither, type_of, length_of}
 use Rattle.regs.specs.StartDma.{requested}
 use Rattle.controller.specs.StartDma.{start_dma, trigger_ff00 as core_trigger_ff00}
-use Rattle.controller.specs.FinishDma.{publish_live_counters, finish_dma, update_irq}
+use Rattle.controller.specs.FinishDma.{publish_live_counters, finish_dma, update_irq, with_stores}
 use Rattle.controller.specs.Enable.{new_reu, connected, set_enabled as core_set_enabled}
 use Rattle.controller.specs.BusAction.{bus_action as core_bus_action, next_action, decide, fall, fall_on_read, fall_on_swap_write, plain, fall_on_write, repeated}
-use Rattle.controller.specs.TickDma.{tick_dma as core_tick_dma, tick_of, tick_running, tick_by_type, tick_store, tick_recall, tick_swap, tick_verify, tick_tail, swap_read, swap_write, tick_refresh, advance, with_error}
+use Rattle.controller.specs.TickDma.{tick_dma as core_tick_dma, tick_of, tick_running, tick_by_type, tick_store, tick_recall, tick_swap, tick_verify, tick_tail, swap_read, swap_write, tick_refresh, advance, ends}
 use Rattle.controller.specs.Cycle.{run_reu_cycle, counted, cycle_by}
 use Rattle.controller.specs.Calls.{read_call}
 use Rattle.transfer.specs.Timing.{action_number}
@@ -209,26 +209,30 @@ last_and_first s a b h = (
   get_or-set_same (set s 524287 a) 0 b 0 (omega (arith, length-set s 524287 a)),
 )
 
--- verify: the controller when the command has started; after the first byte; and after the comparison that a mismatch leaves. Each cycle
--- is counted
+-- verify: the controller when the command has started; after the first byte; and after the comparison that a mismatch leaves. A tick's
+-- stores are made, and each cycle is counted
+abbrev ticked_once : TickAnswer → Reu
+ticked_once t = counted (with_stores t.reu t.stores)
+
 asked : ℕ → Reu
 asked n = (to (begin 0 0 n 0x93) (start [] [])).u
 
 compared : ℕ → Bool → TickAnswer
-compared n equal = advance (with_error (asked n) (not equal)) (requested (asked n).regs) (not equal) false Nothing
+compared n equal = advance (asked n) (requested (asked n).regs) (not equal) false Nothing
 
 tailed : Bool → Reu
-tailed equal = counted (finish_dma (counted (compared 2 false).reu) (with_tail (moved (requested (asked 2).regs)) true) (not (not equal)))
+tailed equal =
+    ticked_once (ends (ticked_once (compared 2 false)) neither (with_tail (moved (requested (asked 2).regs)) true) false (not (not equal)) Nothing)
 
 module _ (m s : List ℕ) (ne : get_or m 0 0 ≢ get_or s 0 0) where
-  one_differs : (to (begin 0 0 3 0x93 ++ ticks 1) (start m s)).u ≡ counted (compared 3 false).reu
+  one_differs : (to (begin 0 0 3 0x93 ++ ticks 1) (start m s)).u ≡ ticked_once (compared 3 false)
   unfolding calls_computed asked compared
-  one_differs = ap (λ (b : Bool). counted (compared 3 b).reu) (ne_eqb (get_or m 0 0) (get_or s 0 0) ne)
+  one_differs = ap (λ (b : Bool). ticked_once (compared 3 b)) (ne_eqb (get_or m 0 0) (get_or s 0 0) ne)
 
   two_compared : (equal : Bool) → eqb (get_or m 1 0) (get_or s 1 0) ≡ equal → (to (begin 0 0 2 0x93 ++ ticks 2) (start m s)).u ≡ tailed equal
   unfolding calls_computed asked compared tailed
   two_compared equal e =
-      ap (λ (b : Bool). let t = compared 2 b in (run_reu_cycle (counted t.reu) (put_bus t.put m) (put_storage new_size t.put s) true true 0 false).0.reu)
+      ap (λ (b : Bool). let t = compared 2 b in (run_reu_cycle (ticked_once t) (put_bus t.put m) (put_storage new_size t.put s) true true 0 false).0.reu)
       (ne_eqb (get_or m 0 0) (get_or s 0 0) ne) ∙ ap tailed e
 
 -- the swap that meets a late fall, on lists that have a first byte
