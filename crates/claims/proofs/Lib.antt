@@ -2,6 +2,7 @@ pub mod Accepted
 pub mod States
 pub mod Walk
 pub mod SavedMachine
+pub mod GrantLaw
 pub mod NumberLaw
 pub mod CycleLaw
 pub mod RegisterLaw
@@ -16,3 +17,4 @@ pub mod GrantedCycles
 pub mod PassedTop
 pub mod RemainingBytes
 pub mod ChipSize
+pub mod AutoloadStores

@@ -8,7 +8,6 @@ use lib.Bits.{bit_and, and_mask}
 use lib.Dec.{eqb, ltb}
 use Rattle.controller.specs.declared.reu.Reu.{Reu}
 use Rattle.controller.specs.declared.reu.Answered.{Answered}
-use Rattle.controller.specs.declared.reu.BusAnswer.{BusAnswer}
 use Rattle.controller.specs.declared.reu.TickAnswer.{TickAnswer}
 use Rattle.transfer.specs.declared.dma.DmaState.{DmaState}
 use Rattle.std.specs.Prelude.{Option}
@@ -23,18 +22,17 @@ use Rattle.transfer.specs.declared.timing.ReuBusAction.{ReuBusAction}
 use Rattle.transfer.specs.declared.timing.ReuBusAction.TheVariants.{Cpu, Hold, Transfer}
 use Rattle.transfer.specs.Bytes.{bit, with_low, with_high}
 use Rattle.regs.specs.Registers.{shown}
-use Rattle.transfer.specs.Timing.{action_number, reads, resumes, swap_reads, swap_writes, writes}
-use Rattle.transfer.specs.Dma.{is_first_byte, is_last_byte, moved}
-use Rattle.controller.specs.Timing.{c64_access}
-use Rattle.transfer.proofs.Pick.{by_test}
-use Rattle.controller.specs.Reu.{reg, set_reg, with_armed, with_history, with_repeat}
+use Rattle.transfer.specs.Timing.{action_number}
+use Rattle.transfer.specs.Dma.{moved}
+use Rattle.controller.specs.Reu.{reg, set_reg, with_armed, with_repeat}
 use Rattle.controller.specs.Registers.{read_register, write_c64, write_exp, write_len, write_bank, write_at, write_register, write_command}
 use Rattle.controller.specs.StartDma.{start_dma, trigger_ff00}
 use Rattle.controller.specs.FinishDma.{publish_live_counters, finish_dma, update_irq}
 use Rattle.controller.specs.Enable.{set_enabled}
-use Rattle.controller.specs.BusAction.{bus_action, next_action, decide, fall, fall_on_read, fall_on_swap_write, fall_on_write, plain, repeated, resumed}
+use Rattle.controller.specs.BusAction.{bus_action}
 use Rattle.controller.specs.TickDma.{tick_dma, tick_of, tick_running, tick_by_type, tick_store, tick_recall, tick_swap, tick_verify, tick_tail, swap_read, swap_write, tick_refresh, advance, shown_last}
 use Rattle.controller.specs.Cycle.{run_reu_cycle, capped, counted, cycle_by}
+use Rattle.claims.proofs.GrantLaw.{Face, Keeps, either, grant_face, kept}
 
 -- the count and the size, of a controller and of an answer that carries one
 abbrev pub Numbers : Type 0
@@ -46,26 +44,12 @@ of u = (u.granted_cycles, u.size)
 abbrev of_read : Answered ℕ → Numbers
 of_read a = of a.reu
 
-abbrev of_grant : BusAnswer → Numbers
-of_grant a = of a.reu
-
 abbrev of_tick : TickAnswer → Numbers
 of_tick t = of t.reu
 
 -- another count
 abbrev with : (ℕ → ℕ) → Numbers → Numbers
 with f p = (f p.0, p.1)
-
--- they are n: a record, so that a chain of choices is compared choice by choice
-record Keeps {A : Type 0} (f : A → Numbers) (n : Numbers) (x : A) : Type 0 where
-  same : f x ≡ n
-
-kept : {A : Type 0} {f : A → Numbers} {n : Numbers} {x : A} → f x ≡ n → Keeps f n x
-kept e = record { same = e }
-
--- what both arms keep, the choice keeps
-either : {A : Type 0} {f : A → Numbers} {n : Numbers} (b : Bool) {x y : A} → Keeps f n x → Keeps f n y → Keeps f n (cond b x y)
-either {f = f} {n = n} b {x} {y} p q = by_test (Keeps f n) b x y (λ _. p) (λ _. q)
 
 -- what each arm gives, the choice gives
 by_both : (b : Bool) (x y : Reu) (n k : Numbers) → of x ≡ n → of y ≡ k → of (cond b x y) ≡ cond b n k
@@ -88,30 +72,8 @@ switch_keeps u s false = refl
 
 -- ---- the grant
 
-fall_kept : (u : Reu) (late : Bool) → Keeps of_grant (of u) (fall u late)
-unfolding fall fall_on_read fall_on_swap_write fall_on_write plain
-fall_kept u late =
-    either (swap_reads u.dma) (either (is_first_byte u.dma) (kept refl) (either (is_last_byte u.dma) (kept refl) (kept refl)))
-    (either (reads (c64_access u)) (kept refl)
-    (either (swap_writes u.dma) (either late (kept refl) (kept refl))
-    (either (writes (c64_access u)) (either (is_last_byte u.dma) (kept refl) (kept refl)) (kept refl))))
-
-decide_kept : (u : Reu) (high falling late : Bool) → Keeps of_grant (of u) (decide u high falling late)
-unfolding decide plain
-decide_kept u high falling late =
-    either u.terminal_swap_write (kept refl)
-    (either (eqb u.swap_read_delay 0) (either falling (fall_kept u late) (kept refl)) (kept refl))
-
-resumed_kept : (u : Reu) (b : Bool) → Keeps of (of u) (resumed u b)
-resumed_kept u b = either b (kept refl) (kept refl)
-
 pub grant_keeps : (u : Reu) (s : List ℕ) (high phi1 : Bool) (cycle : ℕ) → of (bus_action u s high phi1 cycle).0.reu ≡ of u
-unfolding bus_action next_action repeated
-grant_keeps u s high phi1 cycle =
-    let falling = u.ba_was_high && not phi1 in
-    let resume = resumes u.dma (not u.ba_was_high && phi1) cycle in
-    let first = with_history u phi1 (phi1 && not high) in
-    (decide_kept (repeated (resumed first resume) falling) phi1 falling u.late_ba_fall).same ∙ (resumed_kept first resume).same
+grant_keeps u s high phi1 cycle = ap (λ (x : Face). (x.7, x.8)) (grant_face u s high phi1 cycle)
 
 -- ---- a tick
 

@@ -28,10 +28,14 @@ shadow_stores u = map (λ (i : ℕ). store i (shadow_byte u i)) (2 ∷ 3 ∷ 4 �
 
 -- ---- which steps hand them out
 
+-- a command with Autoload is running
+abbrev pub autoloading : Option DmaState → Bool
+autoloading x = runs (λ d. d.autoload) x
+
 -- "a tick or cycle that ends a command with Autoload": one is running, on a storage, and after the step, with w, none is. (Without
 -- storage a tick drops a command, and does not end it)
 abbrev pub ends_autoload : Reu → Reu → Bool
-ends_autoload u w = u.attached && (runs (λ d. d.autoload) u.dma && not (active w.dma))
+ends_autoload u w = u.attached && (autoloading u.dma && not (active w.dma))
 
 -- "The core step hands out these stores ..; any other step hands out none. Made on the registers before, they give registers 2 to 8
 -- after": of a step that hands out x and leaves w

@@ -1,0 +1,306 @@
+-- The stores of a step: a tick by what it does, then the cycle and the lent step over it.
+use Prim.Native.Nat.{ℕ, zero, suc, ◌≤◌}
+use mathlib.Core.Bool.{Bool, true, false, not, ◌&&◌, ◌||◌, cond, false≢true, and-false, not-not}
+use mathlib.Core.Path.{◌≡◌, refl, sym, ap, ◌∙◌}
+use mathlib.Core.List.{List, [], ◌∷◌}
+use native.Mathlib.Omega.{arith}
+use lib.Dec.{eqb}
+use lib.ListN.{length, get_or, set, length-set}
+use lib.Seq.{get_or-set_other}
+use Rattle.transfer.specs.declared.dma.DmaState.{DmaState}
+use Rattle.std.specs.Prelude.{Option, None, Some}
+use Rattle.transfer.specs.declared.dma.Passed.{Passed}
+use Rattle.transfer.specs.declared.dma.SwapPhase.{SwapPhase}
+use Rattle.transfer.specs.declared.dma.SwapPhase.TheVariants.{ReadC64, WriteC64}
+use Rattle.transfer.specs.declared.dma.TransferType.{TransferType}
+use Rattle.transfer.specs.declared.dma.TransferType.TheVariants.{Store, Recall, Swap, Verify}
+use Rattle.transfer.specs.declared.memory.Put.{Put}
+use Rattle.transfer.specs.declared.memory.Seen.{Seen}
+use Rattle.transfer.specs.declared.timing.ReuBusAction.{ReuBusAction}
+use Rattle.transfer.specs.declared.timing.ReuBusAction.TheVariants.{Cpu, Hold, Transfer}
+use Rattle.transfer.specs.Dma.{active, is_type, is_write_phase, moved, neither, passed, recalled, seen_by, with_latch, with_tail}
+use Rattle.transfer.specs.declared.memory.Put.TheVariants.{Nothing}
+use Rattle.transfer.proofs.Pick.{by_test, fst, snd}
+use Rattle.regs.specs.declared.stores.RegisterStore.{RegisterStore}
+use Rattle.regs.specs.Registers.{held}
+use Rattle.regs.specs.Stores.{Handed, listed, made}
+use Rattle.transfer.specs.Constants.{end_of_block, interrupt, verify_error}
+use Rattle.transfer.specs.Bytes.{ones}
+use Rattle.regs.specs.FinishDma.{autoloaded, finished, finished_command, finished_status, irq_due, marked}
+use Rattle.controller.specs.declared.reu.Reu.{Reu}
+use Rattle.controller.specs.declared.reu.TickAnswer.{TickAnswer}
+use Rattle.controller.specs.Reu.{with_dma, with_release, with_repeat, with_shadows}
+use Rattle.controller.specs.Refusals.{checked, refusal_of}
+use Rattle.controller.specs.BusAction.{bus_action}
+use Rattle.controller.specs.Calls.{call_both, cycle_call, tick_call}
+use Rattle.controller.specs.Cycle.{counted, cycle_by, run_reu_cycle}
+use Rattle.controller.specs.FinishDma.{finish_dma, publish_live_counters, update_irq, with_stores}
+use Rattle.controller.specs.TickDma.{Ticked, advance, differs, ends, goes_on, quiet_tick, shown_last, swap_read, swap_write, tick_by_type, tick_dma, tick_of, tick_recall, tick_refresh, tick_running, tick_store, tick_swap, tick_tail, tick_verify, with_error}
+use Rattle.claims.specs.AutoloadStores.{AutoloadStores, HandedOut, an_end, autoloading, ends_autoload, shadow_stores}
+use Rattle.claims.proofs.GrantLaw.{Face, face, grant_face}
+
+-- ---- lists that agree on registers 2 to 8
+
+record Agree (l r : List ℕ) : Type 0 where
+  long : length l ≡ length r
+  at : (i : ℕ) → 2 ≤ i → get_or l i 0 ≡ get_or r i 0
+
+then : {l r t : List ℕ} → Agree l r → Agree r t → Agree l t
+then a b = record { long = a.long ∙ b.long; at = λ i h. a.at i h ∙ b.at i h }
+
+-- a store to STATUS or COMMAND
+agree_set : (l : List ℕ) (j v : ℕ) → suc j ≤ 2 → Agree (set l j v) l
+agree_set l j v h = record { long = length-set l j v; at = λ i g. get_or-set_other l j i v 0 (omega arith) }
+
+agree_marked : (l : List ℕ) (bits : ℕ) (event : Bool) → Agree (marked l bits event) l
+agree_marked l bits true = agree_set l 0 _ (omega arith)
+agree_marked l bits false = record { long = refl; at = λ i h. refl }
+
+-- the same stores on both
+set_agrees : (l r : List ℕ) (j v i : ℕ) → length l ≡ length r → get_or l i 0 ≡ get_or r i 0 → get_or (set l j v) i 0 ≡ get_or (set r j v) i 0
+set_agrees [] [] j v i n h = h
+set_agrees [] (y ∷ r) j v i n h = absurd (omega arith)
+set_agrees (x ∷ l) [] j v i n h = absurd (omega arith)
+set_agrees (x ∷ l) (y ∷ r) zero v zero n h = refl
+set_agrees (x ∷ l) (y ∷ r) zero v (suc i) n h = h
+set_agrees (x ∷ l) (y ∷ r) (suc j) v zero n h = h
+set_agrees (x ∷ l) (y ∷ r) (suc j) v (suc i) n h = let m : length l ≡ length r = omega arith in set_agrees l r j v i m h
+
+made_agrees : (xs : List RegisterStore) (l r : List ℕ) (i : ℕ) → length l ≡ length r → get_or l i 0 ≡ get_or r i 0 → get_or (made xs l) i 0 ≡ get_or (made xs r) i 0
+made_agrees [] l r i n h = h
+made_agrees (x ∷ xs) l r i n h =
+    made_agrees xs (set l x.index x.value) (set r x.index x.value) i
+    (length-set l x.index x.value ∙ n ∙ sym (length-set r x.index x.value)) (set_agrees l r x.index x.value i n h)
+
+-- the end of a command changes STATUS and COMMAND alone
+command_agrees : (l : List ℕ) → Agree (finished_command l) l
+command_agrees l = agree_set l 1 _ (omega arith)
+
+finished_agrees : (l : List ℕ) (done : Bool) → Agree (finished l done) l
+finished_agrees l done = then (command_agrees (finished_status l done)) (agree_marked l (ones (end_of_block ∷ [])) done)
+
+finish_agrees : (u : Reu) (error done : Bool) → Agree (finish_dma (with_error u error) done).regs u.regs
+unfolding finish_dma update_irq
+finish_agrees u error done =
+    let m = with_error u error in
+    let l = finished m.regs done in
+    then (agree_marked l (ones (interrupt ∷ [])) (irq_due l)) (then (finished_agrees m.regs done) (agree_marked u.regs (ones (verify_error ∷ [])) error))
+
+-- ---- a tick
+
+-- of a tick on the registers l and the shadows c, e and n, of a command with Autoload or without: it ends the command or it goes on
+record Right (l : List ℕ) (c e n : ℕ) (auto ended : Bool) (t : TickAnswer) : Type 0 where
+  goes_on : active t.reu.dma ≡ not ended
+  stores : t.stores ≡ cond ended (autoloaded auto c e n) None
+  regs : ended ≡ true → auto ≡ true → Agree t.reu.regs l
+
+abbrev RightOf : Reu → Bool → Bool → TickAnswer → Type 0
+RightOf u auto ended t = Right u.regs u.shadow_c64_addr u.shadow_reu_addr u.shadow_len auto ended t
+
+-- the end finds u
+ends_right : (u : Reu) (p : Passed) (d : DmaState) (error done : Bool) (put : Put) → RightOf u d.autoload true (ends u p d error done put)
+unfolding finish_dma update_irq
+ends_right u p d error done put = record { goes_on = refl; stores = refl; regs = λ _ _. finish_agrees u error done }
+
+goes_right : {l : List ℕ} {c e n : ℕ} {auto : Bool} {t : TickAnswer} → active t.reu.dma ≡ true → t.stores ≡ None → Right l c e n auto false t
+goes_right a n = record { goes_on = a; stores = n; regs = λ e _. absurd (false≢true e) }
+
+-- a byte is done
+module _ (u : Reu) (d : DmaState) (error low : Bool) (put : Put) where
+  -- what the end finds: u with Autoload, w otherwise, and then there is no store
+  found_right : (w : Reu) (auto : Bool) → d.autoload ≡ auto → (release done : Bool)
+      → RightOf u auto true (ends (with_release (cond auto u w) release) (passed d) d error done put)
+  unfolding finish_dma update_irq
+  found_right w true e release done = let r = ends_right (with_release u release) (passed d) d error done put in record { goes_on = r.goes_on; stores = r.stores ∙ ap (λ (b : Bool). autoloaded b u.shadow_c64_addr u.shadow_reu_addr u.shadow_len) e; regs = λ _ _. finish_agrees (with_release u release) error done }
+  found_right w false e release done = record { goes_on = refl; stores = ap (λ (b : Bool). autoloaded b w.shadow_c64_addr w.shadow_reu_addr w.shadow_len) e; regs = λ _ e. absurd (false≢true e) }
+
+  abbrev chosen : Bool → Bool → Bool → TickAnswer
+  chosen one e left =
+      cond (e && (not one && left)) (goes_on u (passed d) error (with_tail (moved d) true) put)
+      (cond (one || e)
+      (ends (with_release (shown_last u (moved d)) (one && (is_type d.transfer_type Swap && not low))) (passed d) d error one put)
+      (goes_on u (passed d) error (moved d) put))
+
+  choice_right : (one e left : Bool) → RightOf u d.autoload (one || (e && not left)) (chosen one e left)
+  choice_right true true left = found_right (publish_live_counters u (moved d)) d.autoload refl _ true
+  choice_right true false left = found_right (publish_live_counters u (moved d)) d.autoload refl _ true
+  choice_right false true true = goes_right refl refl
+  choice_right false true false = found_right (publish_live_counters u (moved d)) d.autoload refl _ false
+  choice_right false false left = goes_right refl refl
+
+  advance_right : RightOf u d.autoload (eqb d.remaining 1 || (error && not (eqb (moved d).remaining 1))) (advance u d error low put)
+  unfolding advance
+  advance_right = choice_right (eqb d.remaining 1) error (eqb (moved d).remaining 1)
+
+module _ (u : Reu) (d : DmaState) (b : Seen) (cycle : ℕ) (low : Bool) where
+  -- `an_end`, by type and phase
+  abbrev ended : TransferType → SwapPhase → Bool
+  ended t p =
+      (not (is_type t Swap) || is_write_phase p)
+      && (eqb d.remaining 1 || (is_type t Verify && (differs b && not (eqb (moved d).remaining 1))))
+
+  phase_right : (p : SwapPhase) → RightOf u d.autoload (ended Swap p) (tick_swap p u d b cycle low)
+  unfolding tick_swap swap_read swap_write
+  phase_right ReadC64 = goes_right refl refl
+  phase_right WriteC64 = advance_right u d false low _
+
+  type_right : (t : TransferType) → RightOf u d.autoload (ended t d.swap_phase) (tick_by_type t u d b cycle low)
+  unfolding tick_by_type tick_store tick_recall tick_verify
+  type_right Store = advance_right u d false low _
+  type_right Recall =
+      advance_right (with_repeat u (u.recall_repeat && d.first_byte)) (with_latch d (recalled d u.recall_repeat b)) false low _
+  type_right Swap = phase_right d.swap_phase
+  type_right Verify = advance_right u d (differs b) low _
+
+  abbrev ran : Bool → Bool → TickAnswer
+  ran refresh tail = cond refresh (tick_refresh u d b cycle) (cond tail (tick_tail u d b) (tick_by_type d.transfer_type u d b cycle low))
+
+  ran_right : (refresh tail : Bool)
+      → RightOf u d.autoload (not refresh && (tail || ended d.transfer_type d.swap_phase)) (ran refresh tail)
+  unfolding tick_refresh tick_tail
+  ran_right true tail = goes_right refl refl
+  ran_right false true = ends_right u neither d false (not (differs b)) Nothing
+  ran_right false false = type_right d.transfer_type
+
+  running_right : RightOf u d.autoload (an_end u d b) (tick_running u d b cycle low)
+  unfolding tick_running
+  running_right = ran_right u.swap_refresh d.verify_tail
+
+-- ---- what is handed out
+
+-- by whether the step ends a command with Autoload
+conclude : (u : Reu) (x : Handed) (w : Reu) (b : Bool) → ends_autoload u w ≡ b → x ≡ cond b (Some (shadow_stores u)) None
+    → (b ≡ true → (i : ℕ) → 2 ≤ i → held (made (listed x) u.regs) i ≡ held w.regs i) → HandedOut u x w
+conclude u x w b e l g =
+    record { which = l ∙ ap (λ (k : Bool). cond k (Some (shadow_stores u)) None) (sym e); gives = λ h i low high. g (sym e ∙ h) i low }
+
+hands_none : (u w : Reu) → ends_autoload u w ≡ false → HandedOut u None w
+hands_none u w e = conclude u None w false e refl (λ h. absurd (false≢true h))
+
+-- a command that runs on is not ended
+runs_on : (x : Option DmaState) → (autoloading x && not (active x)) ≡ false
+runs_on None = refl
+runs_on (Some d) = and-false d.autoload
+
+stays : (u w : Reu) → active w.dma ≡ active u.dma → HandedOut u None w
+stays u w e =
+    hands_none u w
+    (ap (λ (a : Bool). u.attached && (autoloading u.dma && not a)) e ∙ ap (λ (k : Bool). u.attached && k) (runs_on u.dma) ∙ and-false u.attached)
+
+-- the stores of an end
+all_or_none : (u : Reu) (auto ended : Bool)
+    → cond ended (autoloaded auto u.shadow_c64_addr u.shadow_reu_addr u.shadow_len) None ≡ cond (auto && ended) (Some (shadow_stores u)) None
+all_or_none u true true = refl
+all_or_none u true false = refl
+all_or_none u false true = refl
+all_or_none u false false = refl
+
+abbrev HandedBy : Reu → TickAnswer → Type 0
+HandedBy u t = HandedOut u t.stores (with_stores t.reu t.stores)
+
+-- a tick that leaves t ends a command with Autoload
+is_end : (u : Reu) (d : DmaState) (ended : Bool) (t : TickAnswer) → u.attached ≡ true → u.dma ≡ Some d → RightOf u d.autoload ended t
+    → ends_autoload u t.reu ≡ (d.autoload && ended)
+is_end u d ended t a e r = (λ j. a j && (autoloading (e j) && not (r.goes_on j))) ∙ ap (λ (b : Bool). d.autoload && b) (not-not ended)
+
+-- and then its answer has registers 2 to 8 as they were
+end_agrees : (u : Reu) (d : DmaState) (ended : Bool) (t : TickAnswer) → RightOf u d.autoload ended t → (d.autoload && ended) ≡ true
+    → Agree t.reu.regs u.regs
+end_agrees u d ended t r h = r.regs (snd d.autoload ended h) (fst d.autoload ended h)
+
+right_handed : (u : Reu) (d : DmaState) (ended : Bool) (t : TickAnswer) → u.attached ≡ true → u.dma ≡ Some d → RightOf u d.autoload ended t
+    → HandedBy u t
+right_handed u d ended t a e r =
+    conclude u t.stores (with_stores t.reu t.stores) (d.autoload && ended)
+    (is_end u d ended t a e r)
+    (r.stores ∙ all_or_none u d.autoload ended)
+    (λ h i low.
+    let g = end_agrees u d ended t r h in
+    made_agrees (listed t.stores) u.regs t.reu.regs i (sym g.long) (sym (g.at i low)))
+
+module _ (u : Reu) (m s : List ℕ) (cycle : ℕ) (low : Bool) where
+  by_dma : (x : Option DmaState) → u.dma ≡ x → HandedBy u (tick_of x u (seen_by u.size x m s) cycle low)
+  unfolding tick_of
+  by_dma None e = stays u u refl
+  by_dma (Some d) e =
+      by_test (HandedBy u) u.attached _ _
+      (λ a. right_handed u d _ _ a e (running_right u d (seen_by u.size (Some d) m s) cycle low))
+      (λ a. hands_none u _ (ap (λ (b : Bool). b && (autoloading u.dma && not false)) a))
+
+  tick_handed : HandedOut u (tick_dma u m s cycle low).0.stores (tick_dma u m s cycle low).0.reu
+  unfolding tick_dma
+  tick_handed = by_dma u.dma refl
+
+-- before they are made
+abbrev Clean : Reu → TickAnswer → Type 0
+Clean u t = ends_autoload u t.reu ≡ true → (i : ℕ) → 2 ≤ i → i ≤ 8 → held t.reu.regs i ≡ held u.regs i
+
+tick_clean : (u : Reu) (m s : List ℕ) (cycle : ℕ) (low : Bool) → Clean u (tick_of u.dma u (seen_by u.size u.dma m s) cycle low)
+unfolding tick_of
+tick_clean u m s cycle low = by_command u.dma refl
+  where
+    by_command : (x : Option DmaState) → u.dma ≡ x → Clean u (tick_of x u (seen_by u.size x m s) cycle low)
+    by_command None e = λ h i lo hi. refl
+    by_command (Some d) e =
+        let r = running_right u d (seen_by u.size (Some d) m s) cycle low in
+        by_test (Clean u) u.attached _ _
+        (λ a h i lo hi. (end_agrees u d _ _ r (sym (is_end u d _ _ a e r) ∙ h)).at i lo)
+        (λ _ h i lo hi. refl)
+
+-- ---- the cycle over it
+
+-- what holds of a step on v, which the grant has left of u, holds of it on u
+from_grant : (u v : Reu) (x : Handed) (w : Reu) → face v ≡ face u → HandedOut v x w → HandedOut u x w
+from_grant u v x w e h =
+    record {
+      which = h.which ∙ (λ j. cond ((e j).4 && ((e j).5 && not (active w.dma))) (Some (shadow_stores (with_shadows u (e j).1 (e j).2 (e j).3))) None);
+      gives = λ k i low high.
+          ap (λ (l : List ℕ). held (made (listed x) l) i) (sym (ap (λ (f : Face). f.0) e))
+          ∙ h.gives ((λ j. (e j).4 && ((e j).5 && not (active w.dma))) ∙ k) i low high;
+    }
+
+by_grant : (a : ReuBusAction) (u : Reu) (m s : List ℕ) (cycle : ℕ) (low : Bool)
+    → HandedOut u (cycle_by a u m s cycle low).0.stores (cycle_by a u m s cycle low).0.reu
+unfolding cycle_by counted
+by_grant Cpu u m s cycle low = stays u u refl
+by_grant Hold u m s cycle low = stays u u refl
+by_grant Transfer u m s cycle low = let h = tick_handed u m s cycle low in record { which = h.which; gives = h.gives }
+
+cycle_handed : (u : Reu) (m s : List ℕ) (high phi1 : Bool) (cycle : ℕ) (low : Bool)
+    → HandedOut u (run_reu_cycle u m s high phi1 cycle low).0.stores (run_reu_cycle u m s high phi1 cycle low).0.reu
+unfolding run_reu_cycle
+cycle_handed u m s high phi1 cycle low =
+    from_grant u _ _ _ (grant_face u s high phi1 cycle) (by_grant (bus_action u s high phi1 cycle).0.action _ m _ cycle low)
+
+-- ---- the calls
+
+-- a refused step hands out none
+tested : (u : Reu) (m s : List ℕ) (x : Ticked) → HandedOut u x.0.stores x.0.reu
+    → HandedOut u (call_both u m s x).0.stores (call_both u m s x).0.reu
+unfolding checked
+tested u m s x h =
+    by_test (λ (y : Ticked). HandedOut u y.0.stores y.0.reu) (eqb (refusal_of u (length m) (length s)) 0) x _ (λ _. h) (λ _. stays u u refl)
+
+cycle_call_lem : (u : Reu) (m s : List ℕ) (high phi1 : Bool) (cycle : ℕ) (low : Bool)
+    → HandedOut u (cycle_call u m s high phi1 cycle low).0.stores (cycle_call u m s high phi1 cycle low).0.reu
+unfolding cycle_call
+cycle_call_lem u m s high phi1 cycle low = tested u m s _ (cycle_handed u m s high phi1 cycle low)
+
+tick_call_lem : (u : Reu) (m s : List ℕ) (cycle : ℕ) (low : Bool)
+    → HandedOut u (tick_call u m s cycle low).0.stores (tick_call u m s cycle low).0.reu
+unfolding tick_call
+tick_call_lem u m s cycle low = tested u m s _ (tick_handed u m s cycle low)
+
+-- which ticks end a command
+tick_ends : (u : Reu) (d : DmaState) (m s : List ℕ) (cycle : ℕ) (low : Bool) → u.attached ≡ true → u.dma ≡ Some d
+    → not (active (tick_dma u m s cycle low).0.reu.dma) ≡ an_end u d (seen_by u.size u.dma m s)
+unfolding tick_dma tick_of
+tick_ends u d m s cycle low a e =
+    let b : Seen = seen_by u.size (Some d) m s in
+    (λ j. not (active (tick_of (e j) u (seen_by u.size (e j) m s) cycle low).reu.dma))
+    ∙ ap (λ (k : Bool). not (active (cond k (tick_running u d b cycle low) (quiet_tick false (with_dma u None) Nothing)).reu.dma)) a
+    ∙ ap not (running_right u d b cycle low).goes_on ∙ not-not (an_end u d b)
+    ∙ ap (λ (x : Option DmaState). an_end u d (seen_by u.size x m s)) (sym e)
+
+pub autoload_stores : AutoloadStores
+autoload_stores = record { tick = tick_call_lem; cycle = cycle_call_lem; lent = cycle_call_lem; clean = tick_clean; ends = tick_ends }
