@@ -18,7 +18,8 @@ use Rattle.transfer.specs.declared.memory.Put.{Put}
 use Rattle.transfer.specs.declared.memory.Seen.{Seen}
 use Rattle.transfer.specs.declared.timing.ReuBusAction.{ReuBusAction}
 use Rattle.transfer.specs.declared.timing.ReuBusAction.TheVariants.{Cpu, Hold, Transfer}
-use Rattle.transfer.specs.Dma.{active, is_type, is_write_phase, moved, neither, passed, recalled, seen_by, with_latch, with_tail}
+use Rattle.transfer.specs.Timing.{action_number}
+use Rattle.transfer.specs.Dma.{active, is_type, is_write_phase, moved, neither, passed, recalled, runs, seen_by, with_latch, with_tail}
 use Rattle.transfer.specs.declared.memory.Put.TheVariants.{Nothing}
 use Rattle.transfer.proofs.Pick.{by_test, fst, snd}
 use Rattle.regs.specs.declared.stores.RegisterStore.{RegisterStore}
@@ -36,7 +37,7 @@ use Rattle.controller.specs.Calls.{call_both, cycle_call, tick_call}
 use Rattle.controller.specs.Cycle.{counted, cycle_by, run_reu_cycle}
 use Rattle.controller.specs.FinishDma.{finish_dma, publish_live_counters, update_irq, with_stores}
 use Rattle.controller.specs.TickDma.{Ticked, advance, differs, ends, goes_on, quiet_tick, shown_last, swap_read, swap_write, tick_by_type, tick_dma, tick_of, tick_recall, tick_refresh, tick_running, tick_store, tick_swap, tick_tail, tick_verify, with_error}
-use Rattle.claims.specs.AutoloadStores.{AutoloadStores, HandedOut, an_end, autoloading, ends_autoload, shadow_stores}
+use Rattle.claims.specs.AutoloadStores.{AutoloadStores, HandedOut, an_end, autoloading, comes_to_end, ends_autoload, shadow_stores}
 use Rattle.claims.proofs.GrantLaw.{Face, face, grant_face}
 
 -- ---- lists that agree on registers 2 to 8
@@ -291,16 +292,37 @@ tick_call_lem : (u : Reu) (m s : List ℕ) (cycle : ℕ) (low : Bool)
 unfolding tick_call
 tick_call_lem u m s cycle low = tested u m s _ (tick_handed u m s cycle low)
 
--- which ticks end a command
-tick_ends : (u : Reu) (d : DmaState) (m s : List ℕ) (cycle : ℕ) (low : Bool) → u.attached ≡ true → u.dma ≡ Some d
-    → not (active (tick_dma u m s cycle low).0.reu.dma) ≡ an_end u d (seen_by u.size u.dma m s)
+-- ---- which ticks and cycles end a command
+
+tick_ends : (u : Reu) (m s : List ℕ) (cycle : ℕ) (low : Bool) → u.attached ≡ true → active u.dma ≡ true
+    → not (active (tick_dma u m s cycle low).0.reu.dma) ≡ comes_to_end u m s
 unfolding tick_dma tick_of
-tick_ends u d m s cycle low a e =
-    let b : Seen = seen_by u.size (Some d) m s in
-    (λ j. not (active (tick_of (e j) u (seen_by u.size (e j) m s) cycle low).reu.dma))
-    ∙ ap (λ (k : Bool). not (active (cond k (tick_running u d b cycle low) (quiet_tick false (with_dma u None) Nothing)).reu.dma)) a
-    ∙ ap not (running_right u d b cycle low).goes_on ∙ not-not (an_end u d b)
-    ∙ ap (λ (x : Option DmaState). an_end u d (seen_by u.size x m s)) (sym e)
+tick_ends u m s cycle low a = by_command u.dma
+  where
+    by_command : (x : Option DmaState) → active x ≡ true
+        → not (active (tick_of x u (seen_by u.size x m s) cycle low).reu.dma) ≡ runs (λ d. an_end u d (seen_by u.size x m s)) x
+    by_command None e = absurd (false≢true e)
+    by_command (Some d) e =
+        let b : Seen = seen_by u.size (Some d) m s in
+        ap (λ (k : Bool). not (active (cond k (tick_running u d b cycle low) (quiet_tick false (with_dma u None) Nothing)).reu.dma)) a
+        ∙ ap not (running_right u d b cycle low).goes_on ∙ not-not (an_end u d b)
+
+-- v is what the grant has left
+granted_ends : (a : ReuBusAction) (v : Reu) (m s : List ℕ) (cycle : ℕ) (low : Bool) → v.attached ≡ true → active v.dma ≡ true
+    → not (active (cycle_by a v m s cycle low).0.reu.dma) ≡ (eqb (action_number a) (action_number Transfer) && comes_to_end v m s)
+unfolding cycle_by counted
+granted_ends Cpu v m s cycle low a e = ap not e
+granted_ends Hold v m s cycle low a e = ap not e
+granted_ends Transfer v m s cycle low a e = tick_ends v m s cycle low a e
+
+cycle_ends : (u : Reu) (m s : List ℕ) (high phi1 : Bool) (cycle : ℕ) (low : Bool) → u.attached ≡ true → active u.dma ≡ true
+    → (let g = bus_action u s high phi1 cycle in
+    not (active (run_reu_cycle u m s high phi1 cycle low).0.reu.dma) ≡ (eqb (action_number g.0.action) (action_number Transfer) && comes_to_end g.0.reu m g.1))
+unfolding run_reu_cycle
+cycle_ends u m s high phi1 cycle low a e =
+    let f = grant_face u s high phi1 cycle in
+    granted_ends (bus_action u s high phi1 cycle).0.action _ m _ cycle low (ap (λ (x : Face). x.4) f ∙ a) (ap (λ (x : Face). x.6) f ∙ e)
 
 pub autoload_stores : AutoloadStores
-autoload_stores = record { tick = tick_call_lem; cycle = cycle_call_lem; lent = cycle_call_lem; clean = tick_clean; ends = tick_ends }
+autoload_stores =
+    record { tick = tick_call_lem; cycle = cycle_call_lem; lent = cycle_call_lem; clean = tick_clean; tick_ends = tick_ends; cycle_ends = cycle_ends }

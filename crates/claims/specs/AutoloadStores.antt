@@ -4,12 +4,16 @@ use Rattle.transfer.specs.declared.dma.DmaState.{DmaState}
 use Rattle.transfer.specs.declared.dma.TransferType.TheVariants.{Swap, Verify}
 use Rattle.transfer.specs.declared.memory.Seen.{Seen}
 use Rattle.transfer.specs.Bytes.{low_byte, high_byte, bank_byte}
+use Rattle.transfer.specs.declared.timing.ReuBusAction.TheVariants.{Transfer}
+use Rattle.transfer.specs.Timing.{action_number}
 use Rattle.transfer.specs.Dma.{active, is_type, is_write_phase, moved, runs, seen_by}
 use Rattle.regs.specs.declared.stores.RegisterStore.{RegisterStore}
 use Rattle.regs.specs.Registers.{held}
 use Rattle.regs.specs.Stores.{Handed, listed, made, store}
 use Rattle.controller.specs.declared.reu.Reu.{Reu}
 use Rattle.controller.specs.TickDma.{differs, tick_dma, tick_of}
+use Rattle.controller.specs.BusAction.{bus_action}
+use Rattle.controller.specs.Cycle.{run_reu_cycle}
 use Rattle.controller.specs.Calls.{cycle_call, step_call, tick_call}
 
 -- ---- what is stored
@@ -57,7 +61,11 @@ failed d b = is_type d.transfer_type Verify && (differs b && not (eqb (moved d).
 abbrev pub an_end : Reu → DmaState → Seen → Bool
 an_end u d b = not u.swap_refresh && (d.verify_tail || (completes d && (eqb d.remaining 1 || failed d b)))
 
--- ---- the claim: of each of the three core steps, whatever it is lent; and which ticks end a command
+-- a tick of u on the bus m and the storage s ends the command that runs
+abbrev pub comes_to_end : Reu → List ℕ → List ℕ → Bool
+comes_to_end u m s = runs (λ d. an_end u d (seen_by u.size u.dma m s)) u.dma
+
+-- ---- the claim: of each of the three core steps, whatever it is lent; and which ticks and cycles end a command
 
 pub record AutoloadStores : Type 0 where
   pub tick : (u : Reu) (m s : List ℕ) (cycle : ℕ) (low : Bool) →
@@ -70,5 +78,9 @@ pub record AutoloadStores : Type 0 where
   pub clean : (u : Reu) (m s : List ℕ) (cycle : ℕ) (low : Bool) →
       let t = tick_of u.dma u (seen_by u.size u.dma m s) cycle low in
       ends_autoload u t.reu ≡ true → (i : ℕ) → 2 ≤ i → i ≤ 8 → held t.reu.regs i ≡ held u.regs i
-  pub ends : (u : Reu) (d : DmaState) (m s : List ℕ) (cycle : ℕ) (low : Bool) → u.attached ≡ true → u.dma ≡ Some d →
-      not (active (tick_dma u m s cycle low).0.reu.dma) ≡ an_end u d (seen_by u.size u.dma m s)
+  -- of a command that runs on a storage: a tick ends it as above, and a cycle if its grant is Transfer and a tick of what the grant leaves would
+  pub tick_ends : (u : Reu) (m s : List ℕ) (cycle : ℕ) (low : Bool) → u.attached ≡ true → active u.dma ≡ true →
+      not (active (tick_dma u m s cycle low).0.reu.dma) ≡ comes_to_end u m s
+  pub cycle_ends : (u : Reu) (m s : List ℕ) (high phi1 : Bool) (cycle : ℕ) (low : Bool) → u.attached ≡ true → active u.dma ≡ true →
+      let g = bus_action u s high phi1 cycle in
+      not (active (run_reu_cycle u m s high phi1 cycle low).0.reu.dma) ≡ (eqb (action_number g.0.action) (action_number Transfer) && comes_to_end g.0.reu m g.1)
