@@ -7,12 +7,11 @@ ghost use Rattle.std.specs.Prelude.{◌≡◌};
 ghost use Rattle.regs.specs.FinishDma.{autoloaded, counters, finished, irq_due, marked};
 
 use crate::constants::{
-    C64_ADDRESS_HIGH, C64_ADDRESS_LOW, COMMAND, COMMAND_COMPLETION_MASK, COMMAND_FF00_DISABLE,
-    INTERRUPT_END_OF_BLOCK_ENABLE, INTERRUPT_GLOBAL_ENABLE, INTERRUPT_MASK,
-    INTERRUPT_VERIFY_ENABLE, REGISTER_COUNT, REU_ADDRESS_BANK, REU_ADDRESS_HIGH, REU_ADDRESS_LOW,
-    STATUS, STATUS_END_OF_BLOCK, STATUS_VERIFY_ERROR, TRANSFER_LENGTH_HIGH, TRANSFER_LENGTH_LOW,
+    COMMAND, COMMAND_COMPLETION_MASK, COMMAND_FF00_DISABLE, INTERRUPT_END_OF_BLOCK_ENABLE,
+    INTERRUPT_GLOBAL_ENABLE, INTERRUPT_MASK, INTERRUPT_VERIFY_ENABLE, REGISTER_COUNT, STATUS,
+    STATUS_END_OF_BLOCK, STATUS_VERIFY_ERROR,
 };
-use crate::stores::{COUNTERS, RegisterStore, counter_stores};
+use crate::stores::{COUNTERS, RegisterStore, counter_stores, made};
 
 pub fn irq_due(regs: [u8; REGISTER_COUNT]) -> bool
     ensures { result ≡ irq_due regs }
@@ -37,24 +36,14 @@ pub fn marked(mut regs: [u8; REGISTER_COUNT], bits: u8, event: bool) -> [u8; REG
 
 // Registers 2 to 8 from two addresses and a length.
 pub fn counters(
-    mut regs: [u8; REGISTER_COUNT],
+    regs: [u8; REGISTER_COUNT],
     c64: u16,
     expansion: u32,
     length: u32,
 ) -> [u8; REGISTER_COUNT]
     ensures { result ≡ counters regs c64 expansion length }
 {
-    let [c64_low, c64_high] = c64.to_le_bytes();
-    let [low, high, bank, _] = expansion.to_le_bytes();
-    let [length_low, length_high, _, _] = length.to_le_bytes();
-    regs[C64_ADDRESS_LOW] = c64_low;
-    regs[C64_ADDRESS_HIGH] = c64_high;
-    regs[REU_ADDRESS_LOW] = low;
-    regs[REU_ADDRESS_HIGH] = high;
-    regs[REU_ADDRESS_BANK] = bank;
-    regs[TRANSFER_LENGTH_LOW] = length_low;
-    regs[TRANSFER_LENGTH_HIGH] = length_high;
-    regs
+    made(counter_stores(c64, expansion, length), regs)
 }
 
 // STATUS and COMMAND at the end of a command.
@@ -77,7 +66,7 @@ pub fn autoloaded(
     ensures { result ≡ autoloaded autoload c64 expansion length }
 {
     if autoload {
-        return Some(counter_stores(c64, expansion, length));
+        return Some(counter_stores(c64, expansion, u32::from(length)));
     }
     None
 }

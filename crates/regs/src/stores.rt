@@ -27,12 +27,12 @@ fn store(index: usize, value: u8) -> RegisterStore
 }
 
 // Registers 2 to 8 from two addresses and a length.
-pub(crate) fn counter_stores(c64: u16, expansion: u32, length: u16) -> [RegisterStore; COUNTERS]
+pub(crate) fn counter_stores(c64: u16, expansion: u32, length: u32) -> [RegisterStore; COUNTERS]
     ensures { result ≡ counter_stores c64 expansion length }
 {
     let [c64_low, c64_high] = c64.to_le_bytes();
     let [low, high, bank, _] = expansion.to_le_bytes();
-    let [length_low, length_high] = length.to_le_bytes();
+    let [length_low, length_high, _, _] = length.to_le_bytes();
     [
         store(C64_ADDRESS_LOW, c64_low),
         store(C64_ADDRESS_HIGH, c64_high),
