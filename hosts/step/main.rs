@@ -5,14 +5,10 @@
 //! COUNT is the cycles of idle work, and the bytes of a transfer, which must be more than 256 to reach the tops.
 //! tools/count-step compiles and runs this.
 
-#[allow(dead_code)] // of the numbers only the lengths are used
-#[path = "../../rust/src/constants.rs"]
-mod constants;
-#[path = "../bench/src/screen.rs"]
-mod screen;
+mod common;
 
-use constants::{BUS_SIZE, STORAGE_SIZE};
-use screen::Ba;
+use common::constants::{BUS_SIZE, STORAGE_SIZE};
+use common::{bits, screen, screen::Ba};
 
 /// Where a block begins on both sides, and how many steps report that the C64 address and the expansion address passed its
 /// top.
@@ -45,11 +41,6 @@ unsafe extern "C" {
         expected: u32,
         limit: u64,
     ) -> u64;
-}
-
-/// The bits that the Rattle side takes an input apart by.
-fn bits(ba: &Ba) -> u8 {
-    (ba.high | ba.high_phi1 << 1 | ba.low << 2) as u8
 }
 
 /// The cycles run, how many reported each mark, and the memories after them.
