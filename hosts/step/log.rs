@@ -11,7 +11,7 @@ mod runs;
 use common::bits;
 use common::constants::{REGISTER_COUNT, STORAGE_SIZE};
 use counts::Judged;
-use rule::{Known, Line, Operation, Sort};
+use rule::{Known, Line, Operation, Sort, State};
 use runs::Run;
 
 #[link(name = "step", kind = "static")]
@@ -41,26 +41,29 @@ fn packed(operation: &Operation) -> u32 {
 
 /// Takes bytes off the front.
 fn taken<'a>(log: &mut &'a [u8], count: usize) -> &'a [u8] {
-    log.split_off(..count).expect("a line is whole")
+    let (front, rest) = log.split_at(count);
+    *log = rest;
+    front
+}
+
+fn state(log: &mut &[u8]) -> State {
+    let registers = taken(log, REGISTER_COUNT).try_into().unwrap();
+    State { registers, running: taken(log, 1)[0] != 0, granted: taken(log, 1)[0] }
 }
 
 fn line(log: &mut &[u8]) -> Line {
-    let (before, flags) = (taken(log, REGISTER_COUNT), taken(log, 2));
-    let count = usize::from(taken(log, 1)[0]);
+    let (before, count) = (state(log), usize::from(taken(log, 1)[0]));
     let stores = taken(log, 2 * count).chunks_exact(2).map(|pair| (pair[0], pair[1])).collect();
-    let (after, is_running) = (taken(log, REGISTER_COUNT), taken(log, 1)[0] != 0);
-    let [before, after] = [before, after].map(|registers| registers.try_into().unwrap());
-    Line { before, was_running: flags[0] != 0, granted: flags[1] != 0, stores, after, is_running }
+    Line { before, stores, after: state(log) }
 }
 
-/// The longest line: the registers before and after, three flags, a count and seven pairs.
-const LINE: usize = 2 * REGISTER_COUNT + 3 + 1 + 14;
+/// The longest line: a controller before and after, a count and seven pairs.
+const LINE: usize = 2 * (REGISTER_COUNT + 2) + 1 + 14;
 
-/// The log of a run. The storage is lent, for its size: enabling clears it.
+/// The steps' lines in the log of a run. The storage is lent, for its size: enabling clears it.
 fn logged(run: &Run, storage: &mut [u8]) -> Vec<Line> {
-    let steps = run.steps().count();
-    let (mut bus, mut log) = (run.bus(), vec![0xEE; steps * LINE]);
     let operations: Vec<u32> = run.operations.iter().map(packed).collect();
+    let (mut bus, mut log) = (run.bus(), vec![0xEE; operations.len() * LINE]);
     // SAFETY: each pointer is valid for the length beside it, and no two buffers overlap.
     let length = unsafe {
         let (bus, storage) = ((bus.as_mut_ptr(), bus.len()), (storage.as_mut_ptr(), storage.len()));
@@ -68,9 +71,10 @@ fn logged(run: &Run, storage: &mut [u8]) -> Vec<Line> {
         run_log(bus.0, bus.1, storage.0, storage.1, calls.0, calls.1, log.0, log.1)
     };
     let mut rest = &log[..length as usize];
-    let lines = (0..steps).map(|_| line(&mut rest)).collect();
-    assert!(rest.is_empty(), "more than {steps} lines");
-    lines
+    let lines = run.operations.iter().map(|operation| (operation, line(&mut rest)));
+    let steps = lines.filter(|(operation, _)| operation.is_step()).map(|(_, line)| line).collect();
+    assert!(rest.is_empty(), "more lines than operations");
+    steps
 }
 
 /// Holds a log to the rule, step by step, with what the host knows by its calls up to there. Answers what each step does.
@@ -101,7 +105,7 @@ fn main() {
     };
     let all: Vec<Judged> = runs::all().into_iter().map(sorts).collect();
     counts::shown(&all);
-    let (planted, noticed) = planted::all(&mut storage);
-    println!("{planted} planted, {noticed} noticed");
-    assert!(planted == noticed, "a wrong log was not noticed");
+    let planted = planted::all(&mut storage);
+    println!("{} planted, {} noticed", planted.made, planted.noticed);
+    assert!(planted.made == planted.noticed, "a wrong log was not noticed");
 }

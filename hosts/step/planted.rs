@@ -1,7 +1,7 @@
-//! Wrong logs, each made of a right one by one change. The judging that passes the right one must notice each.
+//! Wrong logs, each a right one with one change. The judging that passes the right one must notice each.
 
 use crate::common::constants::*;
-use crate::rule::{Line, Operation, Registers, STORED, Sort};
+use crate::rule::{Line, Operation, STORED};
 use crate::runs::{self, Block, Run, Step};
 use crate::{judged, logged};
 
@@ -9,60 +9,58 @@ use crate::{judged, logged};
 struct Right {
     run: Run,
     log: Vec<Line>,
-    sorts: Vec<Sort>,
 }
 
 impl Right {
     fn of(run: Run, storage: &mut [u8]) -> Right {
         let log = logged(&run, storage);
-        let sorts = judged(&run, &log).expect("a right log");
-        Right { run, log, sorts }
+        judged(&run, &log).expect("a right log");
+        Right { run, log }
     }
 
-    /// The first step of a sort.
-    fn first(&self, is_this: impl FnMut(&Sort) -> bool) -> usize {
-        self.sorts.iter().position(is_this).expect("a step of this sort")
-    }
-
-    /// The step that ends the command.
-    fn end(&self) -> usize {
-        self.first(|sort| matches!(sort, Sort::Ends(_)))
-    }
-
-    fn stores(&self) -> Vec<(u8, u8)> {
-        self.log[self.end()].stores.clone()
+    /// The step that ends the command, and the stores that it hands out.
+    fn end(&self) -> (usize, Vec<(u8, u8)>) {
+        let at = self.log.iter().position(|line| line.before.running && !line.after.running).expect("an end");
+        (at, self.log[at].stores.clone())
     }
 }
 
 /// How many wrong logs were made, and how many of them noticed.
-struct Planted(usize, usize);
+pub struct Planted {
+    pub made: usize,
+    pub noticed: usize,
+}
 
 impl Planted {
-    /// A log with one line changed must not pass.
-    fn plants(&mut self, name: &str, right: &Right, at: usize, change: impl FnOnce(&mut Line)) {
+    /// A changed log must not pass.
+    fn plants(&mut self, name: &str, right: &Right, change: impl FnOnce(&mut Vec<Line>)) {
         let mut log = right.log.clone();
-        change(&mut log[at]);
-        self.0 += 1;
+        change(&mut log);
+        self.made += 1;
         match judged(&right.run, &log) {
-            Ok(_) => println!("not noticed: {name}, at step {at} of {:?}", right.run.block),
-            Err(_) => self.1 += 1,
+            Ok(_) => println!("not noticed in a log of {:?}: {name}", right.run.block),
+            Err(_) => self.noticed += 1,
         }
     }
 
     /// Other stores, and the registers after the step as these make them.
     fn plants_made(&mut self, name: &str, right: &Right, at: usize, stores: Vec<(u8, u8)>) {
-        self.plants(name, right, at, |line| {
-            line.stores = stores;
-            let made = line.made();
-            line.after[STORED].copy_from_slice(&made[STORED]);
+        self.plants(name, right, |log| {
+            log[at].stores = stores;
+            let made = log[at].made();
+            log[at].after.registers[STORED].copy_from_slice(&made);
         });
     }
 
-    /// At the end of a command with Autoload; `live` are the registers that it leaves without.
-    fn at_the_end(&mut self, right: &Right, live: &Registers) {
-        let (at, stores) = (right.end(), right.stores());
-        let live: Vec<(u8, u8)> = (2..=8).map(|index| (index, live[usize::from(index)])).collect();
-        self.plants("an end that is none", right, at, |line| line.is_running = true);
+    /// At the end of a command with Autoload; `plain` is the same without, which leaves the live counters.
+    fn at_the_end(&mut self, right: &Right, plain: &Right) {
+        let (at, stores) = right.end();
+        let live: Vec<(u8, u8)> = (2..=8).zip(plain.log[at].after.registers[STORED].iter().copied()).collect();
+        self.plants("an end that is none", right, |log| log[at].after.running = true);
+        self.plants("an end a step too early", right, |log| {
+            log.remove(at - 1);
+            log.extend(log.last().cloned());
+        });
         self.plants_made("none", right, at, vec![]);
         self.plants_made("the live counters first", right, at, [live.clone(), stores.clone()].concat());
         self.plants_made("all twice", right, at, [stores.clone(), stores.clone()].concat());
@@ -80,71 +78,87 @@ impl Planted {
 
     /// One of the seven stores is wrong.
     fn one_of_seven(&mut self, right: &Right, which: usize, live: (u8, u8)) {
-        let (at, stores) = (right.end(), right.stores());
+        let (at, stores) = right.end();
         let with = |store| [&stores[..which], &[store], &stores[which + 1..]].concat();
         let fewer = [&stores[..which], &stores[which + 1..]].concat();
         self.plants_made("a live counter first", right, at, [vec![live], stores.clone()].concat());
         self.plants_made("a live counter in a place", right, at, with(live));
         self.plants_made("another register", right, at, with((9, stores[which].1)));
-        self.plants("one left out of the log", right, at, |line| line.stores = fewer.clone());
+        self.plants("one left out of the log", right, |log| log[at].stores = fewer.clone());
         self.plants_made("one left out", right, at, fewer);
         self.plants_made("one twice", right, at, [&stores[..=which], &stores[which..]].concat());
-        self.plants("a register that no store gives", right, at, |line| line.after[2 + which] ^= 1);
+        self.plants("a register that no store gives", right, |log| log[at].after.registers[2 + which] ^= 1);
+    }
+
+    /// The command goes on to the end of the log.
+    fn no_end(&mut self, right: &Right) {
+        let (at, _) = right.end();
+        self.plants("no end", right, |log| {
+            let goes_on = log[at - 1].clone();
+            log[at..].fill(goes_on);
+        });
+    }
+
+    /// At each step that has none: seven stores in the log alone, one that is made, and a command that runs or does not.
+    fn elsewhere(&mut self, right: &Right, stores: &[(u8, u8)]) {
+        for at in (0..right.log.len()).filter(|&at| right.log[at].stores.is_empty()) {
+            self.plants("stores that are not due", right, |log| log[at].stores = stores.to_vec());
+            self.plants_made("a store that is not due", right, at, stores[..1].to_vec());
+            self.plants("another before", right, |log| log[at].before.running ^= true);
+            self.plants("another after", right, |log| log[at].after.running ^= true);
+        }
     }
 }
 
-/// A block at whose end the live counters of all seven registers differ from the shadows.
-fn long() -> Block {
-    Block::of(STORE, 0x0102)
+/// Blocks at whose end the live counters of all seven registers differ from the shadows, one for each end.
+fn long() -> Vec<Block> {
+    let error = |at| Block { differing: vec![at], ..Block::of(VERIFY, 0x0102) };
+    let whole = [STORE, RECALL, SWAP, VERIFY].map(|kind| Block::of(kind, 0x0102));
+    [&whole[..], &[0x0080, 0x0100, 0x0101].map(error)].concat()
 }
 
-/// Wrong values, at the end of a command.
-fn at_ends(planted: &mut Planted, step: Step, storage: &mut [u8]) {
-    let mut of = |run| Right::of(run, storage);
-    let right = of(Run::whole(&long(), step));
-    let plain = of(Run::whole(&Block { autoload: false, ..long() }, step));
-    let unbanked = of(Run::whole(&Block { bank: None, ..long() }, step));
-    let changed = of(Run::with(&long(), step, &runs::rewritten(), 9));
-    planted.at_the_end(&right, &plain.log[plain.end()].after);
-    planted.plants_made("an end without Autoload", &plain, plain.end(), right.stores());
-    planted.plants_made("the shadows of the start", &changed, changed.end(), right.stores());
-    // The bits of a bank that are not connected are 1 in the shadow where a bank was written, and 0 where none was.
-    for (name, right, bank) in [("without", &right, 0x02), ("with", &unbanked, 0xF8)] {
-        let mut stores = right.stores();
+/// The shadows of another time, or a bank with other upper bits: these are 1 in the shadow where a bank was written, and 0
+/// where none was.
+fn other_shadows(planted: &mut Planted, step: Step, storage: &mut [u8]) {
+    let block = Block::of(STORE, 0x0102);
+    let right = Right::of(Run::whole(&block, step), storage);
+    let changed = Right::of(Run::with(&block, step, &runs::rewritten(), 9), storage);
+    let unbanked = Right::of(Run::whole(&Block { bank: None, ..block }, step), storage);
+    planted.plants_made("the shadows of the start", &changed, changed.end().0, right.end().1);
+    for (name, right, bank) in [("no upper bits", &right, 0x02), ("upper bits", &unbanked, 0xF8)] {
+        let (at, mut stores) = right.end();
         stores[4].1 = bank;
-        planted.plants_made(&format!("the bank {name} its upper bits"), right, right.end(), stores);
+        planted.plants_made(name, right, at, stores);
     }
 }
 
-/// Stores of a step that ends nothing: all seven in the log alone, or one that is made.
+fn at_ends(planted: &mut Planted, step: Step, storage: &mut [u8]) {
+    for block in long() {
+        let mut of = |block: &Block| Right::of(Run::whole(block, step), storage);
+        planted.at_the_end(&of(&block), &of(&Block { autoload: false, ..block.clone() }));
+    }
+}
+
 fn elsewhere(planted: &mut Planted, step: Step, storage: &mut [u8]) {
-    let mut of = |run| Right::of(run, storage);
-    let right = of(Run::whole(&long(), step));
-    let armed = of(Run::whole(&Block { by_ff00: true, ..long() }, step));
-    let dropped = of(Run::dropped(&long(), step, 9));
-    // A Hold is a cycle's alone.
-    let held = of(Run::held(&Block::of(SWAP, 3)));
-    let goes_on = right.first(|sort| matches!(sort, Sort::GoesOn));
-    for (name, log, at) in [
-        ("idle, before", &right, goes_on - 1),
-        ("the first byte", &right, goes_on),
-        ("the last byte but one", &right, right.end() - 1),
-        ("idle, after", &right, right.end() + 1),
-        ("waiting for FF00", &armed, armed.first(|sort| matches!(sort, Sort::Armed))),
-        ("disabled", &dropped, dropped.first(|sort| matches!(sort, Sort::Dropped))),
-        ("a Hold", &held, held.first(|sort| matches!(sort, Sort::Held))),
-    ] {
-        planted.plants(name, log, at, |line| line.stores = right.stores());
-        planted.plants_made(name, log, at, right.stores()[..1].to_vec());
+    for block in [STORE, RECALL, SWAP, VERIFY].map(|kind| Block::of(kind, 3)) {
+        let mut of = |run| Right::of(run, storage);
+        let (right, held) = (of(Run::whole(&block, step)), of(Run::held(&block)));
+        let plain = of(Run::whole(&Block { autoload: false, ..block.clone() }, step));
+        let armed = of(Run::whole(&Block { by_ff00: true, ..block.clone() }, step));
+        let dropped = of(Run::dropped(&block, step, 2));
+        planted.no_end(&held);
+        for other in [&right, &held, &plain, &armed, &dropped] {
+            planted.elsewhere(other, &right.end().1);
+        }
     }
 }
 
-/// How many wrong logs were made, and how many noticed.
-pub fn all(storage: &mut [u8]) -> (usize, usize) {
-    let mut planted = Planted(0, 0);
+pub fn all(storage: &mut [u8]) -> Planted {
+    let mut planted = Planted { made: 0, noticed: 0 };
     for step in [Operation::Cycle as Step, Operation::Tick as Step] {
         at_ends(&mut planted, step, storage);
+        other_shadows(&mut planted, step, storage);
         elsewhere(&mut planted, step, storage);
     }
-    (planted.0, planted.1)
+    planted
 }

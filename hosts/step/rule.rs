@@ -7,8 +7,6 @@ use crate::common::screen::Ba;
 /// Registers 2 to 8.
 pub const STORED: std::ops::RangeInclusive<usize> = 2..=8;
 
-pub type Registers = [u8; REGISTER_COUNT];
-
 /// What a host does, as run_log takes it. The last two are steps.
 #[derive(Clone, Copy)]
 pub enum Operation {
@@ -25,27 +23,31 @@ impl Operation {
     }
 }
 
-/// What the log says of a step.
+/// What the log says of a controller: its registers, whether a command is running, and how many cycles were granted, modulo 256.
+#[derive(Clone)]
+pub struct State {
+    pub registers: [u8; REGISTER_COUNT],
+    pub running: bool,
+    pub granted: u8,
+}
+
+/// What it says of a step.
 #[derive(Clone)]
 pub struct Line {
-    pub before: Registers,
-    pub was_running: bool,
-    /// A cycle that was granted and counted; a tick is not counted.
-    pub granted: bool,
+    pub before: State,
     /// Indexes and values.
     pub stores: Vec<(u8, u8)>,
-    pub after: Registers,
-    pub is_running: bool,
+    pub after: State,
 }
 
 impl Line {
-    /// The registers after the stores, made one after another on those before.
-    pub fn made(&self) -> Registers {
-        let mut registers = self.before;
+    /// Registers 2 to 8 after the stores, made one after another on the registers before.
+    pub fn made(&self) -> [u8; 7] {
+        let mut registers = self.before.registers;
         for &(index, value) in &self.stores {
             registers[usize::from(index)] = value;
         }
-        registers
+        registers[STORED].try_into().unwrap()
     }
 }
 
@@ -126,26 +128,20 @@ impl Known {
 
     /// What a step does, if its stores are those of the request.
     pub fn judges(&mut self, step: Operation, line: &Line) -> Result<Sort, &'static str> {
-        if line.was_running != self.running.is_some() || line.is_running && !line.was_running {
+        if line.before.running != self.running.is_some() || line.after.running && !line.before.running {
             return Err("a command runs, or runs not, otherwise than by the host's calls");
         }
         let sort = self.does(step, line);
-        match sort {
-            Sort::Ends(Command { autoload: true, .. }) => self.judges_end(line)?,
-            _ if !line.stores.is_empty() => return Err("stores, and no command with Autoload ends"),
-            _ => (),
+        if !matches!(sort, Sort::Ends(command) if command.autoload) {
+            return if line.stores.is_empty() { Ok(sort) } else { Err("stores, and no command with Autoload ends") };
         }
-        Ok(sort)
-    }
-
-    fn judges_end(&self, line: &Line) -> Result<(), &'static str> {
         if !line.stores.iter().copied().eq((2..=8).zip(self.shadows)) {
             return Err("not registers 2 to 8 once each, in order, with the shadows' bytes");
         }
-        if line.made()[STORED] != line.after[STORED] {
+        if line.made() != line.after.registers[STORED] {
             return Err("the stores on the registers before do not give those after");
         }
-        Ok(())
+        Ok(sort)
     }
 
     fn does(&mut self, step: Operation, line: &Line) -> Sort {
@@ -153,14 +149,14 @@ impl Known {
             None if self.armed => Sort::Armed,
             None if self.dropped => Sort::Dropped,
             None => Sort::Idle,
-            Some(command) if !line.is_running => {
+            Some(command) if !line.after.running => {
                 let ended = Command { by_tick: matches!(step, Operation::Tick(_)), ..*command };
                 self.running = None;
                 // What an end leaves in COMMAND.
                 self.command = self.command & 0x7F | 0x10;
                 Sort::Ends(ended)
             }
-            Some(command) if matches!(step, Operation::Cycle(_)) && !line.granted => {
+            Some(command) if matches!(step, Operation::Cycle(_)) && line.after.granted == line.before.granted => {
                 command.held = true;
                 Sort::Held
             }

@@ -58,13 +58,10 @@ impl Block {
     fn start(&self) -> Vec<Operation> {
         let ([low, high], [far_low, far_high]) = (C64.to_le_bytes(), EXPANSION.to_le_bytes());
         let [length_low, length_high] = self.length.to_le_bytes();
-        let mut calls = vec![Write(C64_ADDRESS_LOW, low), Write(C64_ADDRESS_HIGH, high)];
-        calls.extend([Write(EXPANSION_ADDRESS_LOW, far_low), Write(EXPANSION_ADDRESS_HIGH, far_high)]);
-        calls.extend(self.bank.map(|bank| Write(EXPANSION_ADDRESS_BANK, bank)));
-        calls.extend([Write(TRANSFER_LENGTH_LOW, length_low), Write(TRANSFER_LENGTH_HIGH, length_high)]);
-        calls.push(Write(ADDRESS_CONTROL, self.control));
-        calls.extend(self.command());
-        calls
+        let below = [Some(low), Some(high), Some(far_low), Some(far_high), self.bank];
+        let bytes = below.into_iter().chain([Some(length_low), Some(length_high)]);
+        let written = (C64_ADDRESS_LOW..).zip(bytes).filter_map(|(register, byte)| Some(Write(register, byte?)));
+        written.chain([Write(ADDRESS_CONTROL, self.control)]).chain(self.command()).collect()
     }
 
     fn command(&self) -> Vec<Operation> {
@@ -89,16 +86,11 @@ const IDLE: usize = 2;
 
 impl Run {
     /// From new, with idle steps before the start.
-    fn of(block: &Block, then: impl IntoIterator<Item = Operation>) -> Run {
+    fn of(block: &Block, then: impl IntoIterator<Item = Operation>, ends: Option<&[usize]>) -> Run {
         let mut operations = vec![Enable(true), Cycle(Ba::HIGH), Tick(Ba::HIGH)];
         operations.extend(block.start());
         operations.extend(then);
-        Run { block: block.clone(), operations, ends: None }
-    }
-
-    fn ending(mut self, at: &[usize]) -> Run {
-        self.ends = Some(at.to_vec());
-        self
+        Run { block: block.clone(), operations, ends: ends.map(Vec::from) }
     }
 
     /// The bus: 0 as the storage is, but for the bytes that differ.
@@ -110,40 +102,36 @@ impl Run {
         bus
     }
 
-    pub fn steps(&self) -> impl Iterator<Item = Operation> {
-        self.operations.iter().copied().filter(Operation::is_step)
-    }
-
+    /// With BA high, to the end and two steps on.
     pub fn whole(block: &Block, step: Step) -> Run {
         Run::with(block, step, &[], 0)
     }
 
-    /// With BA high, to the end and two steps on, and calls before one of the steps.
+    /// The same, with calls before one of the steps.
     pub fn with(block: &Block, step: Step, calls: &[Operation], before: usize) -> Run {
         let ticks = block.end().1;
         let mut then = vec![step(Ba::HIGH); ticks + 2];
         then.splice(before..before, calls.iter().copied());
         let waits = if block.by_ff00 { IDLE + 2 } else { IDLE };
-        Run::of(block, then).ending(&[waits + ticks - 1])
-    }
-
-    /// With BA low for two cycles and high for three, over and over.
-    pub fn held(block: &Block) -> Run {
-        let enough = block.end().1 + 2;
-        Run::of(block, (0..enough).flat_map(|_| [LOW, LOW, Ba::HIGH, Ba::HIGH, Ba::HIGH]).map(Cycle))
+        Run::of(block, then, Some(&[waits + ticks - 1]))
     }
 
     /// Disabled before a step, and enabled again after two.
     pub fn dropped(block: &Block, step: Step, before: usize) -> Run {
         let mut then = vec![step(Ba::HIGH); before];
         then.extend([Enable(false), step(Ba::HIGH), step(Ba::HIGH), Enable(true), step(Ba::HIGH)]);
-        Run::of(block, then).ending(&[])
+        Run::of(block, then, Some(&[]))
     }
 
-    /// Under a screen's BA, from a cycle of its frame on.
-    fn under_screen(block: &Block, frame: &[Ba], from: usize) -> Run {
+    /// Cycles under a BA that is low at times.
+    fn under(block: &Block, inputs: impl Iterator<Item = Ba>) -> Run {
         let enough = 3 * block.end().1 + CYCLES_PER_LINE;
-        Run::of(block, frame.iter().cycle().skip(from).take(enough).copied().map(Cycle))
+        Run::of(block, inputs.take(enough).map(Cycle), None)
+    }
+
+    /// With BA low for two cycles and high for three, over and over.
+    pub fn held(block: &Block) -> Run {
+        Run::under(block, [LOW, LOW, Ba::HIGH, Ba::HIGH, Ba::HIGH].into_iter().cycle())
     }
 }
 
@@ -203,15 +191,17 @@ fn restarts(step: Step) -> Vec<Run> {
         all.push(Run::with(&block, step, &other.command(), 1));
         // Only a start takes Autoload from COMMAND.
         all.push(Run::with(&block, step, &[Write(COMMAND, if autoload { 0 } else { COMMAND_AUTOLOAD })], 1));
-        // Armed on the way: the end clears bit 7, and FF00 then starts nothing.
-        let mut armed = Run::with(&block, step, &[Write(COMMAND, COMMAND_EXECUTE | COMMAND_AUTOLOAD)], 1);
+        // Armed on the way: the end clears bit 7, and disabling forgets it, so that FF00 starts nothing.
+        let arms = Write(COMMAND, COMMAND_EXECUTE | COMMAND_AUTOLOAD);
+        let mut armed = Run::with(&block, step, &[arms], 1);
         armed.operations.extend([Ff00, step(Ba::HIGH)]);
         all.push(armed);
+        all.push(Run::of(&block, [arms, Enable(false), Enable(true), Ff00, step(Ba::HIGH)], Some(&[])));
         // A second start after the end: with Autoload the length is 3 again, without it has come down to 1.
         let mut again = vec![step(Ba::HIGH); 3];
         again.extend(other.command());
         again.extend([step(Ba::HIGH); 3]);
-        all.push(Run::of(&block, again).ending(&[IDLE + 2, IDLE + if autoload { 5 } else { 3 }]));
+        all.push(Run::of(&block, again, Some(&[IDLE + 2, IDLE + if autoload { 5 } else { 3 }])));
     }
     all
 }
@@ -223,11 +213,11 @@ pub fn all() -> Vec<Run> {
         all.extend(restarts(step));
     }
     all.extend(blocks().iter().filter(|block| block.control == 0).map(Run::held));
+    let under_screen = |block: &Block, from| Run::under(block, frame.iter().copied().cycle().skip(from));
     // Short commands from each cycle of a line with text and a sprite and of the next, and a long swap.
     for from in 107 * CYCLES_PER_LINE..109 * CYCLES_PER_LINE {
-        let short = (0..12).map(|code| Block::of(code % 4, 1 + u16::from(code / 4)));
-        all.extend(short.map(|block| Run::under_screen(&block, &frame, from)));
+        all.extend((0..12).map(|code| under_screen(&Block::of(code % 4, 1 + u16::from(code / 4)), from)));
     }
-    all.push(Run::under_screen(&Block::of(SWAP, 3000), &frame, 0));
+    all.push(under_screen(&Block::of(SWAP, 3000), 0));
     all
 }
