@@ -3,10 +3,7 @@ ghost use Rattle.std.specs.Prelude.{◌≡◌};
 ghost use Rattle.controller.specs.FinishDma.{autoload_stores, finish_dma, publish_live_counters, update_irq, with_stores};
 
 use crate::reu::Reu;
-use regs::{
-    COUNTERS, RegisterStore, STATUS_IRQ_PENDING, autoloaded, counters, finished, irq_due, made,
-    marked,
-};
+use regs::{STATUS_IRQ_PENDING, Stores, autoloaded, counters, finished, irq_due, made, marked};
 use transfer::DmaState;
 
 impl Reu {
@@ -42,7 +39,7 @@ impl Reu {
     }
 
     // The stores at the end of a command: with Autoload the shadows' bytes.
-    pub(crate) fn autoload_stores(self, autoload: bool) -> Option<[RegisterStore; COUNTERS]>
+    pub(crate) fn autoload_stores(self, autoload: bool) -> Stores
         ensures { result ≡ autoload_stores self autoload }
     {
         autoloaded(
@@ -53,7 +50,7 @@ impl Reu {
         )
     }
 
-    pub(crate) fn with_stores(mut self, stores: Option<[RegisterStore; COUNTERS]>) -> Reu
+    pub(crate) fn with_stores(mut self, stores: Stores) -> Reu
         ensures { result ≡ with_stores self stores }
     {
         if let Some(seven) = stores {

@@ -8,8 +8,8 @@ ghost use Rattle.controller.specs.Calls.{answered, bus_action_call, c64_access_c
 use crate::constants::{BUS_BYTES, REU_1764_CAPACITY_BYTES};
 use crate::refusals::Refusal;
 use regs::{
-    ADDRESS_CONTROL_UNUSED_READ_HIGH, BANK_UNUSED_READ_HIGH, COMMAND_FF00_DISABLE, COUNTERS,
-    INTERRUPT_UNUSED_READ_HIGH, REGISTER_COUNT, RegisterStore, STATUS, STATUS_VERSION,
+    ADDRESS_CONTROL_UNUSED_READ_HIGH, BANK_UNUSED_READ_HIGH, COMMAND_FF00_DISABLE,
+    INTERRUPT_UNUSED_READ_HIGH, REGISTER_COUNT, STATUS, STATUS_VERSION, Stores,
 };
 use transfer::{DmaState, Passed, Put, ReuBusAction, chip_mark, clear};
 
@@ -51,7 +51,7 @@ pub struct Answered<T> {
 pub struct Step {
     pub flag: bool,
     pub passed: Passed,
-    pub stores: Option<[RegisterStore; COUNTERS]>,
+    pub stores: Stores,
 }
 
 // A grant, the controller after it, and what is written. It and a tick's answer are two records: as one with a type parameter, what a tick says
@@ -69,7 +69,7 @@ pub struct BusAnswer {
 pub struct TickAnswer {
     pub flag: bool,
     pub passed: Passed,
-    pub stores: Option<[RegisterStore; COUNTERS]>,
+    pub stores: Stores,
     pub reu: Reu,
     pub put: Put,
 }

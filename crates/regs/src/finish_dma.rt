@@ -11,7 +11,7 @@ use crate::constants::{
     INTERRUPT_GLOBAL_ENABLE, INTERRUPT_MASK, INTERRUPT_VERIFY_ENABLE, REGISTER_COUNT, STATUS,
     STATUS_END_OF_BLOCK, STATUS_VERIFY_ERROR,
 };
-use crate::stores::{COUNTERS, RegisterStore, counter_stores, made};
+use crate::stores::{Stores, counter_stores, made};
 
 pub fn irq_due(regs: [u8; REGISTER_COUNT]) -> bool
     ensures { result ≡ irq_due regs }
@@ -57,12 +57,7 @@ pub fn finished(regs: [u8; REGISTER_COUNT], completed: bool) -> [u8; REGISTER_CO
 }
 
 // With Autoload registers 2 to 8 are stored from the shadows. What is stored is said here, and made by whoever asks.
-pub fn autoloaded(
-    autoload: bool,
-    c64: u16,
-    expansion: u32,
-    length: u16,
-) -> Option<[RegisterStore; COUNTERS]>
+pub fn autoloaded(autoload: bool, c64: u16, expansion: u32, length: u16) -> Stores
     ensures { result ≡ autoloaded autoload c64 expansion length }
 {
     if autoload {

@@ -21,4 +21,4 @@ pub use constants::{
 pub use finish_dma::{autoloaded, counters, finished, irq_due, marked};
 pub use registers::{acknowledged, register_index, shown, with_bank, with_high, with_low};
 pub use start_dma::{length_of, requested};
-pub use stores::{COUNTERS, RegisterStore, made};
+pub use stores::{COUNTERS, RegisterStore, Stores, made};

@@ -16,6 +16,9 @@ pub struct RegisterStore {
     pub value: u8,
 }
 
+// What a step hands out: the stores in their order, or none.
+pub type Stores = Option<[RegisterStore; COUNTERS]>;
+
 fn store(index: usize, value: u8) -> RegisterStore
     requires { index < 256 }
     ensures { result ≡ store index value }

@@ -13,7 +13,7 @@ ghost use Rattle.reu.specs.Logged.{logged_both, logged_cycle};
 ghost use Rattle.reu.specs.Inner.{Gives, GivesBoth, GivesStored, Keeps, KeepsBoth, KeepsStored, Kept, ended, value_of};
 
 use controller::{Answered, Refusal, Reu, Step};
-use regs::{COUNTERS, RegisterStore};
+use regs::Stores;
 
 // An answer is this times the refusal number, or a value.
 const REFUSAL_UNIT: u32 = 16_777_216;
@@ -72,7 +72,7 @@ fn change_storage<F: FnOnce(Reu, &mut [u8]) -> Result<Answered<u32>, Refusal>>(
 #[derive(Clone, Copy, Debug, PartialEq, Eq)]
 pub struct Logged {
     pub answer: u32,
-    pub stores: Option<[RegisterStore; COUNTERS]>,
+    pub stores: Stores,
 }
 
 // And of one that is lent bus and storage, with its stores.
@@ -128,7 +128,7 @@ fn finish(image: &mut [u8], answer: Result<Answered<u32>, Refusal>) -> u32
 }
 
 // The stores that a step hands out; a refused one has none.
-fn handed(answer: Result<Answered<Step>, Refusal>) -> Option<[RegisterStore; COUNTERS]>
+fn handed(answer: Result<Answered<Step>, Refusal>) -> Stores
     ensures { (u : Reu) → result ≡ (step_answer_of u answer).stores }
 {
     answer.map_or(None, |done| done.value.stores)
