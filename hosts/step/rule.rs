@@ -93,6 +93,7 @@ impl Known {
         let (kind, autoload) = (self.command & 3, self.command & COMMAND_AUTOLOAD != 0);
         self.running = Some(Command { kind, autoload, by_ff00, rewritten: false, held: false, by_tick: false });
         self.armed = false;
+        self.dropped = false;
     }
 
     fn writes(&mut self, register: u16, value: u8) {
@@ -129,7 +130,7 @@ impl Known {
     /// What a step does, if its stores are those of the request.
     pub fn judges(&mut self, step: Operation, line: &Line) -> Result<Sort, &'static str> {
         if line.before.running != self.running.is_some() || line.after.running && !line.before.running {
-            return Err("a command runs, or runs not, otherwise than by the host's calls");
+            return Err("a command runs, or does not run, otherwise than by the host's calls");
         }
         let sort = self.does(step, line);
         if !matches!(sort, Sort::Ends(command) if command.autoload) {

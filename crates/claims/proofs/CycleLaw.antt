@@ -25,13 +25,14 @@ use Rattle.transfer.specs.Memory.{lines, put_storage}
 use Rattle.controller.specs.Timing.{c64_access}
 use Rattle.transfer.specs.Timing.{action_for_cycle}
 use Rattle.transfer.specs.Dma.{moved, neither}
-use Rattle.regs.specs.FinishDma.{irq_due, counters, finished_status, finished, autoloaded}
+use Rattle.regs.specs.FinishDma.{irq_due, counters, finished_status, finished, stores_at_end}
 use Rattle.regs.specs.Stores.{listed, made}
 use Rattle.controller.specs.FinishDma.{publish_live_counters, finish_dma, update_irq}
 use Rattle.controller.specs.BusAction.{bus_action, next_action, granted, decide, fall, plain, repeated}
 use Rattle.controller.specs.TickDma.{Ticked, ticked, tick_dma, tick_of, tick_running, tick_by_type, tick_swap, swap_read, swap_write, shown_last, advance}
 use Rattle.transfer.proofs.Pick.{by_test}
 use Rattle.controller.specs.Cycle.{run_reu_cycle, counted, cycle_by}
+use Rattle.claims.proofs.EndLaw.{finish_agrees, marked_length, marked_other}
 
 -- whoever unfolds this unfolds all that a cycle of a swap computes
 cycle_computed : Unit {0}
@@ -198,34 +199,18 @@ pub record LastStep (u : Reu) (c l : ℕ) (m s : List ℕ) (t : Ticked) (a : Reu
   pub control : reg t.0.reu 10 ≡ reg u 10
   pub quiet : Quiet t.0.reu
 
--- the interrupt changes STATUS and the level alone; Autoload changes the counters alone
-irq_list : (l : List ℕ) (v : ℕ) (b : Bool) (i : ℕ) → i ≢ 0 → get_or (cond b (set l 0 v) l) i 0 ≡ get_or l i 0
-irq_list l v true i h = get_or-set_other l 0 i v 0 h
-irq_list l v false i h = refl
-
-auto_list : (l : List ℕ) (c e n : ℕ) (b : Bool) (i : ℕ) → (i < 2) ⊎ (8 < i) → get_or (made (listed (autoloaded b c e n)) l) i 0 ≡ get_or l i 0
+-- Autoload changes the counters alone
+auto_list : (l : List ℕ) (c e n : ℕ) (b : Bool) (i : ℕ) → (i < 2) ⊎ (8 < i) → get_or (made (listed (stores_at_end b c e n)) l) i 0 ≡ get_or l i 0
 auto_list l c e n true i h = other_counters l c e n i h
 auto_list l c e n false i h = refl
 
-status_length : (l : List ℕ) (done : Bool) → length (finished_status l done) ≡ length l
-status_length l true = simp length-set
-status_length l false = refl
-
-finish_other : (u : Reu) (done : Bool) (i : ℕ) → i ≢ 0 → reg (finish_dma u done) i ≡ get_or (finished u.regs done) i 0
-unfolding finish_dma update_irq
-finish_other u done i h = irq_list (finished u.regs done) (bit_or (get_or (finished u.regs done) 0 0) 128) (irq_due (finished u.regs done)) i h
-
 finish_command : (u : Reu) (done : Bool) → 1 < length u.regs → reg (finish_dma u done) 1 ≡ bit_or (bit_and (reg u 1) 127) 16
+unfolding finish_dma update_irq
 finish_command u done h =
-    finish_other u done 1 (omega arith)
-    ∙ get_or-set_same (finished_status u.regs done) 1 (bit_or (bit_and (get_or (finished_status u.regs done) 1 0) 127) 16) 0 (omega (arith, status_length u.regs done))
-    ∙ ap (λ (x : ℕ). bit_or (bit_and x 127) 16) (irq_list u.regs (bit_or (reg u 0) 64) done 1 (omega arith))
-
-finish_control : (u : Reu) (done : Bool) → reg (finish_dma u done) 10 ≡ reg u 10
-finish_control u done =
-    finish_other u done 10 (omega arith)
-    ∙ get_or-set_other (finished_status u.regs done) 1 10 (bit_or (bit_and (get_or (finished_status u.regs done) 1 0) 127) 16) 0 (omega arith)
-    ∙ irq_list u.regs (bit_or (reg u 0) 64) done 10 (omega arith)
+    let l = finished_status u.regs done in
+    marked_other (finished u.regs done) 128 (irq_due (finished u.regs done)) 1 (omega arith)
+    ∙ get_or-set_same l 1 (bit_or (bit_and (get_or l 1 0) 127) 16) 0 (omega (arith, marked_length u.regs 64 done))
+    ∙ ap (λ (x : ℕ). bit_or (bit_and x 127) 16) (marked_other u.regs 64 done 1 (omega arith))
 
 finish_quiet : (u : Reu) (done : Bool) → u.terminal_swap_write ≡ false → u.swap_read_delay ≡ 0 → u.attached ≡ true
     → Quiet (finish_dma u done)
@@ -262,7 +247,7 @@ last_ready u c e l auto one odd m s n low len =
           ∙ finish_command w true (omega (arith, f.long)) ∙ ap (λ (x : ℕ). bit_or (bit_and x 127) 16) (f.other 1 (inl (omega arith)));
       control =
           auto_list (finish_dma w true).regs w.shadow_c64_addr w.shadow_reu_addr w.shadow_len auto 10 (inr (omega arith))
-          ∙ finish_control w true ∙ f.other 10 (inr (omega arith));
+          ∙ (finish_agrees w true).at 10 (omega arith) ∙ f.other 10 (inr (omega arith));
       quiet = record { terminal = q.terminal; delay = q.delay; attached = q.attached; idle = q.idle };
     }
   where

@@ -2,6 +2,7 @@ pub mod Accepted
 pub mod States
 pub mod Walk
 pub mod SavedMachine
+pub mod EndLaw
 pub mod GrantLaw
 pub mod NumberLaw
 pub mod CycleLaw
@@ -17,4 +18,5 @@ pub mod GrantedCycles
 pub mod PassedTop
 pub mod RemainingBytes
 pub mod ChipSize
+pub mod Unseen
 pub mod AutoloadStores

@@ -1,19 +1,20 @@
 -- L5: the stores that a step hands out. Quotations are L5's words where no other paper is named. u is the controller before the step.
-use Rattle.std.specs.Prelude.{ℕ, ◌-◌, ◌≤◌, Bool, true, not, ◌&&◌, ◌||◌, cond, ◌≡◌, Option, None, Some, List, [], ◌∷◌, map, get_or, eqb}
+use Rattle.std.specs.Prelude.{ℕ, ◌-◌, ◌≤◌, Bool, true, not, ◌&&◌, ◌||◌, cond, ◌≡◌, Option, None, Some, List, [], ◌∷◌, map, length, get_or, eqb}
 use Rattle.transfer.specs.declared.dma.DmaState.{DmaState}
-use Rattle.transfer.specs.declared.dma.TransferType.TheVariants.{Swap, Verify}
+use Rattle.transfer.specs.declared.dma.TransferType.TheVariants.{Verify}
 use Rattle.transfer.specs.declared.memory.Seen.{Seen}
+use Rattle.transfer.specs.Constants.{register_count}
 use Rattle.transfer.specs.Bytes.{low_byte, high_byte, bank_byte}
 use Rattle.transfer.specs.declared.timing.ReuBusAction.TheVariants.{Transfer}
-use Rattle.transfer.specs.Timing.{action_number}
-use Rattle.transfer.specs.Dma.{active, is_type, is_write_phase, moved, runs, seen_by}
+use Rattle.transfer.specs.Timing.{action_number, swap_reads}
+use Rattle.transfer.specs.Dma.{active, is_type, moved, runs, seen_by}
 use Rattle.regs.specs.declared.stores.RegisterStore.{RegisterStore}
 use Rattle.regs.specs.Registers.{held}
 use Rattle.regs.specs.Stores.{Handed, listed, made, store}
 use Rattle.controller.specs.declared.reu.Reu.{Reu}
-use Rattle.controller.specs.TickDma.{differs, tick_dma, tick_of}
+use Rattle.controller.specs.FinishDma.{autoload_stores, finish_dma, publish_live_counters, with_stores}
+use Rattle.controller.specs.TickDma.{Ticked, differs, tick_of, with_error}
 use Rattle.controller.specs.BusAction.{bus_action}
-use Rattle.controller.specs.Cycle.{run_reu_cycle}
 use Rattle.controller.specs.Calls.{cycle_call, step_call, tick_call}
 
 -- ---- what is stored
@@ -36,10 +37,9 @@ shadow_stores u = map (λ (i : ℕ). store i (shadow_byte u i)) (2 ∷ 3 ∷ 4 �
 abbrev pub autoloading : Option DmaState → Bool
 autoloading x = runs (λ d. d.autoload) x
 
--- "a tick or cycle that ends a command with Autoload": one is running, on a storage, and after the step, with w, none is. (Without
--- storage a tick drops a command, and does not end it)
+-- "a tick or cycle that ends a command with Autoload": one is running before the step, and after it, with w, none is
 abbrev pub ends_autoload : Reu → Reu → Bool
-ends_autoload u w = u.attached && (autoloading u.dma && not (active w.dma))
+ends_autoload u w = autoloading u.dma && not (active w.dma)
 
 -- "The core step hands out these stores ..; any other step hands out none. Made on the registers before, they give registers 2 to 8
 -- after": of a step that hands out x and leaves w
@@ -49,21 +49,23 @@ pub record HandedOut (u : Reu) (x : Handed) (w : Reu) : Type 0 where
 
 -- ---- which ticks end a command
 
--- a swap's first phase completes no byte
-abbrev pub completes : DmaState → Bool
-completes d = not (is_type d.transfer_type Swap) || is_write_phase d.swap_phase
-
 -- 01: a verify mismatch "ends the command, unless it wasn't the last byte and remaining is now 1"
 abbrev pub failed : DmaState → Seen → Bool
 failed d b = is_type d.transfer_type Verify && (differs b && not (eqb (moved d).remaining 1))
 
--- if it doesn't refresh: in the tail, by the block's last byte, where a mismatch may come too, or by a mismatch before it
+-- a tick that doesn't refresh ends the command d in the tail, by the block's last byte, equal or not, or by a mismatch before it; a swap's
+-- first phase completes no byte
 abbrev pub an_end : Reu → DmaState → Seen → Bool
-an_end u d b = not u.swap_refresh && (d.verify_tail || (completes d && (eqb d.remaining 1 || failed d b)))
+an_end u d b =
+    not u.swap_refresh && (d.verify_tail || (not (swap_reads (Some d)) && (eqb d.remaining 1 || failed d b)))
 
--- a tick of u on the bus m and the storage s ends the command that runs
+-- on the bus m and the storage s, the command that runs
 abbrev pub comes_to_end : Reu → List ℕ → List ℕ → Bool
 comes_to_end u m s = runs (λ d. an_end u d (seen_by u.size u.dma m s)) u.dma
+
+-- a command runs, and the step that answers and leaves x is not refused
+abbrev pub Goes : Reu → Ticked → Type 0
+Goes u x = (active u.dma ≡ true) × (x.0.refusal ≡ 0)
 
 -- ---- the claim: of each of the three core steps, whatever it is lent; and which ticks and cycles end a command
 
@@ -78,9 +80,15 @@ pub record AutoloadStores : Type 0 where
   pub clean : (u : Reu) (m s : List ℕ) (cycle : ℕ) (low : Bool) →
       let t = tick_of u.dma u (seen_by u.size u.dma m s) cycle low in
       ends_autoload u t.reu ≡ true → (i : ℕ) → 2 ≤ i → i ≤ 8 → held t.reu.regs i ≡ held u.regs i
-  -- of a command that runs on a storage: a tick ends it as above, and a cycle if its grant is Transfer and a tick of what the grant leaves would
-  pub tick_ends : (u : Reu) (m s : List ℕ) (cycle : ℕ) (low : Bool) → u.attached ≡ true → active u.dma ≡ true →
-      not (active (tick_dma u m s cycle low).0.reu.dma) ≡ comes_to_end u m s
-  pub cycle_ends : (u : Reu) (m s : List ℕ) (high phi1 : Bool) (cycle : ℕ) (low : Bool) → u.attached ≡ true → active u.dma ≡ true →
+  -- a tick ends the command as above, and a cycle does if its grant is Transfer and a tick of what the grant leaves would
+  pub tick_ends : (u : Reu) (m s : List ℕ) (cycle : ℕ) (low : Bool) → Goes u (tick_call u m s cycle low) →
+      not (active (tick_call u m s cycle low).0.reu.dma) ≡ comes_to_end u m s
+  pub cycle_ends : (u : Reu) (m s : List ℕ) (high phi1 : Bool) (cycle : ℕ) (low : Bool) → Goes u (cycle_call u m s high phi1 cycle low) →
       let g = bus_action u s high phi1 cycle in
-      not (active (run_reu_cycle u m s high phi1 cycle low).0.reu.dma) ≡ (eqb (action_number g.0.action) (action_number Transfer) && comes_to_end g.0.reu m g.1)
+      not (active (cycle_call u m s high phi1 cycle low).0.reu.dma)
+      ≡ (eqb (action_number g.0.action) (action_number Transfer) && comes_to_end g.0.reu m g.1)
+  -- "Nothing that an exported call answers or leaves may change": live counters stored first, as before this request, would leave the same
+  pub unseen : (u : Reu) (d : DmaState) (error ended : Bool) → length u.regs ≡ register_count →
+      let x = autoload_stores u true in
+      with_stores (finish_dma (publish_live_counters (with_error u error) d) ended) x
+      ≡ with_stores (finish_dma (with_error u error) ended) x

@@ -54,7 +54,7 @@ pub fn chip_size()
 {}
 
 // A step that ends a command with Autoload hands out registers 2 to 8 in that order with their shadows' bytes, and any other none; made on the registers
-// before, they give registers 2 to 8 after.
+// before, they give registers 2 to 8 after. And which ticks and cycles end a command.
 pub fn autoload_stores()
     ensures { AutoloadStores }
 {}

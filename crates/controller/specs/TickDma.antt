@@ -30,12 +30,12 @@ abbrev pub goes_on : Reu → Passed → Bool → DmaState → Put → TickAnswer
 goes_on u p error d put =
     reports true p None (with_dma (publish_live_counters (with_error u error) d) (Some d)) put
 
--- what the end of a command finds that has come to d: with Autoload the registers as they were before the step, so that "no stale
--- register store" is made; without, the counters shown
+-- what the end of a command finds, whose counters have come to d: with Autoload the registers as they were before the step, so that "no
+-- stale register store" is made; without, the counters shown
 abbrev pub shown_last : Reu → DmaState → Reu
 shown_last u d = cond d.autoload u (publish_live_counters u d)
 
--- the command d ends
+-- the end of the command d, on u: its stores are handed out, and are still to be made
 abbrev pub ends : Reu → Passed → DmaState → Bool → Bool → Put → TickAnswer
 ends u p d error ended put =
     reports false p (autoload_stores u d.autoload) (finish_dma (with_error u error) ended) put

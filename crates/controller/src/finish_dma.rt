@@ -3,7 +3,7 @@ ghost use Rattle.std.specs.Prelude.{◌≡◌};
 ghost use Rattle.controller.specs.FinishDma.{autoload_stores, finish_dma, publish_live_counters, update_irq, with_stores};
 
 use crate::reu::Reu;
-use regs::{STATUS_IRQ_PENDING, Stores, autoloaded, counters, finished, irq_due, made, marked};
+use regs::{STATUS_IRQ_PENDING, Stores, counters, finished, irq_due, made, marked, stores_at_end};
 use transfer::DmaState;
 
 impl Reu {
@@ -42,7 +42,7 @@ impl Reu {
     pub(crate) fn autoload_stores(self, autoload: bool) -> Stores
         ensures { result ≡ autoload_stores self autoload }
     {
-        autoloaded(
+        stores_at_end(
             autoload,
             self.shadow_c64_addr,
             self.shadow_reu_addr,
@@ -50,6 +50,7 @@ impl Reu {
         )
     }
 
+    // Makes what is handed out.
     pub(crate) fn with_stores(mut self, stores: Stores) -> Reu
         ensures { result ≡ with_stores self stores }
     {

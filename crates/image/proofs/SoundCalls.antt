@@ -36,7 +36,7 @@ use Rattle.controller.specs.Timing.{c64_access}
 use Rattle.transfer.specs.Timing.{reads, writes, read_again, restored, resumes, swap_reads, swap_writes}
 use Rattle.regs.specs.StartDma.{requested}
 use Rattle.controller.specs.StartDma.{start_dma, trigger_ff00}
-use Rattle.regs.specs.FinishDma.{irq_due, autoloaded, finished, finished_command}
+use Rattle.regs.specs.FinishDma.{irq_due, stores_at_end, finished, finished_command}
 use Rattle.regs.specs.Stores.{listed, made}
 use Rattle.controller.specs.FinishDma.{update_irq, publish_live_counters, finish_dma, with_stores}
 use Rattle.controller.specs.Enable.{fresh, new_reu, set_size, set_enabled}
@@ -219,7 +219,7 @@ sound_publish : (u : Reu) (d : DmaState) → Sound u → Sound (publish_live_cou
 unfolding publish_live_counters
 sound_publish u d s = with_regs_lem s (count_all d.c64_addr.0 d.reu_addr.0 d.remaining s.regs)
 
-stored_regs : {k : Bool} (b : Bool) (c e n : ℕ) {l : List ℕ} → SoundRegs k l → SoundRegs k (made (listed (autoloaded b c e n)) l)
+stored_regs : {k : Bool} (b : Bool) (c e n : ℕ) {l : List ℕ} → SoundRegs k l → SoundRegs k (made (listed (stores_at_end b c e n)) l)
 stored_regs true c e n r = count_all c e n r
 stored_regs false c e n r = r
 

@@ -33,5 +33,5 @@ finished l ended = finished_command (finished_status l ended)
 
 -- "with Autoload the seven .. registers come from the shadows", here c, e and n. L5: "stores each of registers 2 to 8 once, in that order,
 -- with its shadow's byte"; "any other step hands out none"
-abbrev pub autoloaded : Bool → ℕ → ℕ → ℕ → Handed
-autoloaded autoload c e n = cond autoload (Some (counter_stores c e n)) None
+abbrev pub stores_at_end : Bool → ℕ → ℕ → ℕ → Handed
+stores_at_end autoload c e n = cond autoload (Some (counter_stores c e n)) None

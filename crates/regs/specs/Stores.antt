@@ -7,7 +7,7 @@ use Rattle.transfer.specs.Bytes.{low_byte, high_byte, bank_byte}
 abbrev pub store : ℕ → ℕ → RegisterStore
 store i v = record { index = i; value = v }
 
--- the first store, then the others: "Made on the registers before, they give registers 2 to 8 after"
+-- the first store, then the others: "Made on the registers before"
 abbrev pub made : List RegisterStore → List ℕ → List ℕ
 made [] l = l
 made (x ∷ r) l = made r (set l x.index x.value)

@@ -4,7 +4,7 @@
 // around it. Two addresses and a length are three parameters: the two callers have them as fields of records that differ, and would make a struct
 // only to have it taken apart here.
 ghost use Rattle.std.specs.Prelude.{◌≡◌};
-ghost use Rattle.regs.specs.FinishDma.{autoloaded, counters, finished, irq_due, marked};
+ghost use Rattle.regs.specs.FinishDma.{stores_at_end, counters, finished, irq_due, marked};
 
 use crate::constants::{
     COMMAND, COMMAND_COMPLETION_MASK, COMMAND_FF00_DISABLE, INTERRUPT_END_OF_BLOCK_ENABLE,
@@ -57,8 +57,8 @@ pub fn finished(regs: [u8; REGISTER_COUNT], completed: bool) -> [u8; REGISTER_CO
 }
 
 // With Autoload registers 2 to 8 are stored from the shadows. What is stored is said here, and made by whoever asks.
-pub fn autoloaded(autoload: bool, c64: u16, expansion: u32, length: u16) -> Stores
-    ensures { result ≡ autoloaded autoload c64 expansion length }
+pub fn stores_at_end(autoload: bool, c64: u16, expansion: u32, length: u16) -> Stores
+    ensures { result ≡ stores_at_end autoload c64 expansion length }
 {
     if autoload {
         return Some(counter_stores(c64, expansion, u32::from(length)));

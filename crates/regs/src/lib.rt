@@ -2,7 +2,7 @@
 // takes from them, and what a transfer and its end leave in them. Values alone, as in `transfer`.
 //
 // constants and registers are the original's files; start_dma and finish_dma have what these two of its functions do with registers,
-// stores what a step hands out of it.
+// stores the list by which live counters and shadows are stored.
 #![tactic(auto)]
 
 mod constants;
@@ -18,7 +18,7 @@ pub use constants::{
     REU_ADDRESS_LOW, STATUS, STATUS_IRQ_PENDING, STATUS_VERIFY_ERROR, STATUS_VERSION,
     TRANSFER_LENGTH_HIGH, TRANSFER_LENGTH_LOW, UNUSED_REGISTER_VALUE,
 };
-pub use finish_dma::{autoloaded, counters, finished, irq_due, marked};
+pub use finish_dma::{counters, finished, irq_due, marked, stores_at_end};
 pub use registers::{acknowledged, register_index, shown, with_bank, with_high, with_low};
 pub use start_dma::{length_of, requested};
 pub use stores::{COUNTERS, RegisterStore, Stores, made};

@@ -1,4 +1,5 @@
-// The stores of a step that ends a command with Autoload: which registers are stored, one after another, and with which bytes.
+// Stores of registers, made one after another; and those of registers 2 to 8, from two addresses and a length: the live counters, and what the
+// end of a command with Autoload stores.
 ghost use Rattle.std.specs.Prelude.{◌≡◌, ◌<◌};
 ghost use Rattle.regs.specs.Stores.{counter_stores, made, store};
 
@@ -7,7 +8,7 @@ use crate::constants::{
     REU_ADDRESS_LOW, TRANSFER_LENGTH_HIGH, TRANSFER_LENGTH_LOW,
 };
 
-// The address and length registers, 2 to 8.
+// How many the address and length registers are, 2 to 8.
 pub const COUNTERS: usize = 7;
 
 #[derive(Clone, Copy, Debug, PartialEq, Eq)]
@@ -47,8 +48,8 @@ pub(crate) fn counter_stores(c64: u16, expansion: u32, length: u32) -> [Register
     ]
 }
 
-#[tactic(auto, using(crate::proofs::OneMore::one_more, crate::proofs::OneMore::one_past, crate::proofs::OneMore::all_made))]
 // Makes stores, one after another. One that names no register stores nothing.
+#[tactic(auto, using(crate::proofs::OneMore::one_more, crate::proofs::OneMore::one_past, crate::proofs::OneMore::all_made))]
 pub fn made(
     stores: [RegisterStore; COUNTERS],
     mut regs: [u8; REGISTER_COUNT],

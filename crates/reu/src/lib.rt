@@ -18,6 +18,13 @@ use regs::Stores;
 // An answer is this times the refusal number, or a value.
 const REFUSAL_UNIT: u32 = 16_777_216;
 
+// What a call that is lent bus and storage answers, and which registers it has stored, in their order, where it ended a command with Autoload.
+#[derive(Clone, Copy, Debug, PartialEq, Eq)]
+pub struct Logged {
+    pub answer: u32,
+    pub stores: Stores,
+}
+
 fn refused(reason: Refusal) -> u32
     ensures { result ≡ refusal (refusal_number reason) }
 {
@@ -68,14 +75,7 @@ fn change_storage<F: FnOnce(Reu, &mut [u8]) -> Result<Answered<u32>, Refusal>>(
     }
 }
 
-// What a call that is lent bus and storage answers, and which registers it has stored, in their order, where it ended a command with Autoload.
-#[derive(Clone, Copy, Debug, PartialEq, Eq)]
-pub struct Logged {
-    pub answer: u32,
-    pub stores: Stores,
-}
-
-// And of one that is lent bus and storage, with its stores.
+// And of one that is lent bus and storage, with its stores beside its answer.
 fn change_both<F: FnOnce(Reu, &mut [u8], &mut [u8]) -> Result<Answered<Step>, Refusal>>(
     image: &mut [u8],
     bus: &mut [u8],
