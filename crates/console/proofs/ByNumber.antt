@@ -4,6 +4,7 @@ use Rattle.std.proofs.Common.{◌≡◌, ℕ, suc, ◌+◌, ◌-◌, ◌*◌, �
 use mathlib.Core.Logic.{◌⊎◌, inl, inr}
 use borrow.Author.Tests.{eqb-false, ltb-true}
 use Rattle.transfer.specs.Constants.{bus_size}
+use Rattle.transfer.specs.Dma.{either}
 use Rattle.transfer.specs.Timing.{access_number, action_number, has_address}
 use Rattle.transfer.specs.declared.dma.Passed.{Passed}
 use Rattle.transfer.specs.declared.memory.C64Address.{C64Address}
@@ -11,6 +12,7 @@ use Rattle.transfer.specs.declared.timing.ReuBusAction.{ReuBusAction}
 use Rattle.transfer.specs.declared.timing.ReuBusAction.TheVariants.{Cpu, Hold, Transfer}
 use Rattle.transfer.specs.declared.timing.ReuC64Access.{ReuC64Access}
 use Rattle.transfer.specs.declared.timing.ReuC64Access.TheVariants.{Read, Write}
+use Rattle.regs.specs.Stores.{Handed}
 use Rattle.reu.specs.Exports.{refusal, refusal_unit, reu_c64_access}
 use Rattle.pane.specs.Answers.{accepted, refused_as, refused_by}
 use Rattle.text.specs.Bytes.{byte_at}
@@ -18,7 +20,7 @@ use Rattle.text.specs.Shown.{◌⊕◌, ascii, hex_of}
 use Rattle.lines.specs.Clock.{Time, next_clock, next_time}
 use Rattle.console.specs.declared.step.Cycle.{Cycle}
 use Rattle.console.specs.declared.step.Run.{Run}
-use Rattle.console.specs.Step.{access_in, access_ready, access_text, bytes_by, counted, either_of, grant_text, refused_in, time_after}
+use Rattle.console.specs.Step.{access_in, access_ready, access_text, bytes_by, counted, grant_text, refused_in, time_after}
 use Rattle.console.proofs.Answered.{Access, Alone, access_answers, large, small_access}
 
 -- a refusal is past every value
@@ -108,27 +110,28 @@ bytes_are t (Write a) offset m s h =
 
 -- ---- what is counted, and the time
 
-abbrev pub counted_said : Run → ℕ → Passed → Run
-counted_said r grant passed =
-    let p : Passed = either_of r.passed passed in
+abbrev pub counted_said : Run → ℕ → Passed → Handed → Run
+counted_said r grant passed l =
+    let p : Passed = either r.passed passed in
     cond (eqb grant 2)
-    record { clock = next_clock r.clock; granted = (r.granted + 1) % 2 ^ 64; held = r.held; passed = p }
+    record { clock = next_clock r.clock; granted = (r.granted + 1) % 2 ^ 64; held = r.held; passed = p; stores = l }
     (cond (accepted grant)
-    record { clock = next_clock r.clock; granted = r.granted; held = (r.held + 1) % 2 ^ 64; passed = p } r)
+    record { clock = next_clock r.clock; granted = r.granted; held = (r.held + 1) % 2 ^ 64; passed = p; stores = l } r)
 
-counted_by_grant : (r : Run) (a : ReuBusAction) (access : ReuC64Access) (offset : ℕ) (p : Passed)
-    → counted_said r (action_number a) p ≡ counted r (Ok record { grant = a; access = access; offset = offset; passed = p })
+counted_by_grant : (r : Run) (a : ReuBusAction) (access : ReuC64Access) (offset : ℕ) (p : Passed) (l : Handed)
+    → counted_said r (action_number a) p l ≡ counted r (Ok record { grant = a; access = access; offset = offset; passed = p; stores = l })
 unfolding counted
-counted_by_grant r Cpu access offset p = refl
-counted_by_grant r Hold access offset p = refl
-counted_by_grant r Transfer access offset p = refl
+counted_by_grant r Cpu access offset p l = refl
+counted_by_grant r Hold access offset p l = refl
+counted_by_grant r Transfer access offset p l = refl
 
-pub counted_is : (r : Run) (x : Cycle) → counted_said r (action_number x.grant) x.passed ≡ counted r (Ok x)
-counted_is r x = counted_by_grant r x.grant x.access x.offset x.passed
+pub counted_is : (r : Run) (x : Cycle) → counted_said r (action_number x.grant) x.passed x.stores ≡ counted r (Ok x)
+counted_is r x = counted_by_grant r x.grant x.access x.offset x.passed x.stores
 
-pub refused_counted_is : (r : Run) (n : ℕ) → 1 ≤ n → (p : Passed) → counted_said r (refusal n) p ≡ counted r (Err (refused_in (refusal n)))
+pub refused_counted_is : (r : Run) (n : ℕ) → 1 ≤ n → (p : Passed) (l : Handed)
+    → counted_said r (refusal n) p l ≡ counted r (Err (refused_in (refusal n)))
 unfolding counted
-refused_counted_is r n h p = rw (ne_eqb (refusal n) 2 (λ z. omega (arith, z)), refused_large n h) refl
+refused_counted_is r n h p l = rw (ne_eqb (refusal n) 2 (λ z. omega (arith, z)), refused_large n h) refl
 
 abbrev pub time_said : Time → ℕ → Time
 time_said t grant = cond (accepted grant) (next_time t) t

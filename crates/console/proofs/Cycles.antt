@@ -1,5 +1,6 @@
--- The monitor asks for a grant, on a copy of the image, before the cycle. That changes nothing of what the cycle then leaves and answers.
-use Rattle.std.proofs.Common.{◌≡◌, ℕ, ◌≤◌, Bool, true, false, cond, eqb, List, length, replicate, sym, refl, ap, ◌∙◌, arith, le-ltb, ne_eqb}
+-- The monitor asks for a grant, on a copy of the image, before the cycle. That changes nothing of what the cycle then leaves, answers and
+-- stores.
+use Rattle.std.proofs.Common.{◌≡◌, ℕ, ◌≤◌, Bool, true, false, cond, eqb, List, None, length, replicate, sym, refl, ap, ◌∙◌, arith, le-ltb, ne_eqb}
 use borrow.Author.Tests.{eqb-false}
 use Rattle.image.specs.Layout.{image_size}
 use Rattle.controller.specs.declared.reu.Reu.{Reu}
@@ -9,14 +10,16 @@ use Rattle.transfer.specs.Constants.{bus_size}
 use Rattle.controller.specs.Refusals.{checked, refusal_of, well_formed}
 use Rattle.image.specs.Open.{bytes_ok, image_ok, open_image}
 use Rattle.reu.specs.Exports.{change_both, change_storage, changed_both, changed_storage, code, flag, refusal, refusal_unit, reu_bus_action, reu_cycle}
+use Rattle.reu.specs.declared.Logged.{Logged}
+use Rattle.reu.specs.Logged.{logged, logged_cycle, stores_by}
 use Rattle.pane.specs.Answers.{accepted}
 use Rattle.pane.specs.Rows.{copy_of}
 use Rattle.console.proofs.Asked.{asked_first}
 
 module _ (m : List ℕ) (hm : length m ≡ bus_size) (s : List ℕ) (high number low phi1 : ℕ) where
   module _ (i : List ℕ) where
-    abbrev cycle : List ℕ → (ℕ × List ℕ × List ℕ × List ℕ)
-    cycle t = reu_cycle i m t high number low phi1
+    abbrev cycle : List ℕ → (Logged × List ℕ × List ℕ × List ℕ)
+    cycle t = logged_cycle i m t high number low phi1
 
     abbrev n : ℕ
     n = (open_image i).refusal
@@ -27,14 +30,18 @@ module _ (m : List ℕ) (hm : length m ≡ bus_size) (s : List ℕ) (high number
     abbrev call : List ℕ → Ticked
     call t = cycle_call u m t (flag high) (flag phi1) number (flag low)
 
-    opened : (t : List ℕ) → eqb n 0 ≡ true → cycle t ≡ changed_both (call t) i
-    unfolding change_both checked
-    opened t e = λ j. cond (e j) (changed_both (call t) i) (refusal n, i, m, t)
+    -- what it answers, leaves and stores
+    abbrev done : Ticked → (Logged × List ℕ × List ℕ × List ℕ)
+    done x = logged (changed_both x i) x.0.stores
+
+    opened : (t : List ℕ) → eqb n 0 ≡ true → cycle t ≡ done (call t)
+    unfolding change_both stores_by checked
+    opened t e = λ j. logged (cond (e j) (changed_both (call t) i) (refusal n, i, m, t)) (cond (e j) (call t).0.stores None)
 
     by_image : (b : Bool) → eqb n 0 ≡ b
         → cycle (cond b (changed_storage (bus_action_call u s (flag high) (flag phi1) number) i) (refusal n, i, s)).2 ≡ cycle s
     by_image false e = refl
-    by_image true e = opened _ e ∙ ap (λ (x : Ticked). changed_both x i) (asked_first m hm s (flag high) (flag phi1) number (flag low) u) ∙ sym (opened s e)
+    by_image true e = opened _ e ∙ ap done (asked_first m hm s (flag high) (flag phi1) number (flag low) u) ∙ sym (opened s e)
 
     by_copy : (b : Bool) → cycle (reu_bus_action (cond b i (replicate image_size 255)) s high phi1 number).2 ≡ cycle s
     unfolding change_storage checked open_image image_ok bytes_ok

@@ -1,8 +1,11 @@
--- Worked examples of the definitions, with what was expected written by hand: no command, what is said of a refused image and of a size, and the marks.
+-- Worked examples of the definitions, with what was expected written by hand: no command, what is said of a refused image and of a size, the marks,
+-- and the stores.
 use Rattle.std.proofs.Common.{◌≡◌, ℕ, true, false, List, [], ◌∷◌, map, Some, None, Result, Ok, Err, arith, replicate, refl}
 use Rattle.image.specs.Layout.{image_size}
 use Rattle.controller.specs.Refusals.{checked}
 use Rattle.image.specs.Open.{bytes_ok, image_ok, open_image}
+use Rattle.regs.specs.Stores.{counter_stores, store}
+use Rattle.transfer.specs.Dma.{passed_in}
 use Rattle.reu.specs.Exports.{change, look}
 use Rattle.text.specs.Shown.{◌⊕◌, ascii, decimal_up_to, fill_from, hex_of}
 use Rattle.text.specs.Typed.{digits_from, number_of, same, word_from}
@@ -15,7 +18,7 @@ use Rattle.lines.specs.Keys.{command_of}
 use Rattle.console.specs.Apply.{apply_of, control_of, size_text, sized}
 use Rattle.lines.specs.Clock.{time_of}
 use Rattle.console.specs.Registers.{read_text, warning_of}
-use Rattle.console.specs.Step.{access_in, access_text, action_in, advanced, ba_text, bytes_by, counted, done_text, cycle_line, go_of, marks_of, passed_text, refused_in, run_line, run_text, started}
+use Rattle.console.specs.Step.{access_in, access_text, action_in, advanced, ba_text, bytes_by, counted, done_text, cycle_line, go_of, passed_text, refused_in, run_line, run_text, started, store_line}
 
 -- a word that only ends in a name is no command: nothing is done
 left_alone :
@@ -68,7 +71,7 @@ size_of_none = refl
 -- ---- the marks: a cycle that was granted answers 1, plus 2 for the C64's and plus 4 for the expansion's
 
 unfoldable granted : ℕ → Result Cycle Refused
-granted answer = Ok record { grant = action_in 2; access = access_in 0x1FFFF; offset = 0x7FFFF; passed = marks_of answer }
+granted answer = Ok record { grant = action_in 2; access = access_in 0x1FFFF; offset = 0x7FFFF; passed = passed_in answer; stores = None }
 
 over_both :
     cycle_line fifth (granted 7) [] []
@@ -86,7 +89,25 @@ over_once : (counted (counted (started fifth) (granted 5)) (granted 1)).passed �
 unfolding fifth granted counted
 over_once = refl
 
--- the numbers of the calls, back: every action's
+-- ---- the stores: a line of each, by its address; a run has those of its last cycle, and one before it has none
+
+bank_stored : store_line (store 6 0xF8) ≡ ascii "DF06 stored F8"
+unfolding hex_of ◌⊕◌
+bank_stored = refl
+
+unfoldable ended : Result Cycle Refused
+ended =
+    Ok record { grant = action_in 2; access = access_in 0x12001; offset = 1; passed = passed_in 1; stores = Some (counter_stores 0x2000 0xF80000 2) }
+
+stored_last : (counted (counted (started fifth) (granted 1)) ended).stores ≡ Some (counter_stores 0x2000 0xF80000 2)
+unfolding fifth granted ended counted
+stored_last = refl
+
+stored_before : (counted (counted (started fifth) ended) (granted 1)).stores ≡ None
+unfolding fifth granted ended counted
+stored_before = refl
+
+-- ---- the numbers of the calls, back: every action's
 every_action : map action_in (0 ∷ 1 ∷ 2 ∷ []) ≡ Cpu ∷ Hold ∷ Transfer ∷ []
 every_action = refl
 

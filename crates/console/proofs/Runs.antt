@@ -5,22 +5,25 @@ use mathlib.Core.Logic.{◌⊎◌, inl, inr}
 use Rattle.std.specs.Prelude.{is_some, unwrap_or}
 use Rattle.transfer.specs.Constants.{bus_size}
 use Rattle.transfer.specs.Bytes.{bit_of}
-use Rattle.transfer.specs.Dma.{neither}
+use Rattle.transfer.specs.Dma.{neither, passed_in}
 use Rattle.transfer.specs.declared.dma.Passed.{Passed}
 use Rattle.transfer.specs.declared.timing.ReuBusAction.{ReuBusAction}
 use Rattle.transfer.specs.declared.timing.ReuC64Access.{ReuC64Access}
 use mir.Val.{bool_byte}
 use Rattle.image.proofs.Flags.{byte_is_bit}
+use Rattle.regs.specs.Stores.{Handed}
 use Rattle.image.specs.Layout.{place_of, transfer_exp}
 use Rattle.image.specs.Open.{open_image}
 use Rattle.controller.specs.Refusals.{checked}
-use Rattle.reu.specs.Exports.{look, refusal, refusal_unit, reu_bus_action, reu_cycle, reu_dma_active}
+use Rattle.reu.specs.Exports.{look, refusal, refusal_unit, reu_bus_action, reu_dma_active}
+use Rattle.reu.specs.declared.Logged.{Logged}
+use Rattle.reu.specs.Logged.{logged_cycle}
 use Rattle.pane.specs.declared.answers.Refused.{Refused}
 use Rattle.pane.specs.Answers.{accepted}
 use Rattle.pane.specs.Rows.{copy_of, long_at, size_in}
 use Rattle.lines.specs.declared.clock.Inputs.{Inputs}
 use Rattle.console.specs.declared.step.Cycle.{Cycle}
-use Rattle.console.specs.Step.{Running, access_ready, action_in, advanced, asked_of, cycle_of, go_of, marks_of, refused_in, with_marks}
+use Rattle.console.specs.Step.{Running, access_ready, action_in, advanced, asked_of, cycle_of, go_of, refused_in, with_logged}
 use Rattle.console.proofs.Cycles.{asking_changes_nothing, other_bus}
 
 -- a code that is not accepted is not 0
@@ -38,7 +41,7 @@ module _ (inputs : Inputs) (number : ℕ) (i s : List ℕ) {copy j t : List ℕ}
     (g : (code, j, t) ≡ reu_bus_action copy s high phi1 number) where
   abbrev granted : ℕ → List ℕ → Cycle
   granted n k =
-      record { grant = action_in n; access = access_ready k; offset = long_at k (place_of transfer_exp) % size_in k; passed = neither }
+      record { grant = action_in n; access = access_ready k; offset = long_at k (place_of transfer_exp) % size_in k; passed = neither; stores = None }
 
   abbrev by : (ℕ × List ℕ × List ℕ) → (Result Cycle Refused × List ℕ)
   by y = (cond (accepted y.0) (Ok (granted y.0 y.1)) (Err (refused_in y.0)), y.2)
@@ -49,12 +52,12 @@ module _ (inputs : Inputs) (number : ℕ) (i s : List ℕ) {copy j t : List ℕ}
 
   pub asked : {n at size : ℕ} {action : ReuBusAction} {access : ReuC64Access} → (accepted code ≡ true) × (n ≡ code)
       → action ≡ action_in n → access ≡ access_ready j → at ≡ long_at j (place_of transfer_exp) → size ≡ size_in j
-      → ◌≡◌ {A = Result Cycle Refused × List ℕ} (Ok record { grant = action; access = access; offset = at % size; passed = neither }, t)
+      → ◌≡◌ {A = Result Cycle Refused × List ℕ} (Ok record { grant = action; access = access; offset = at % size; passed = neither; stores = None }, t)
       (asked_of inputs number i s)
   asked ok a b o z =
       let act = a ∙ ap action_in ok.1 in
       let q : ◌≡◌ {A = Result Cycle Refused × List ℕ} (by (code, j, t)) (Ok (granted code j), t) = rw ok.0 refl in
-      (λ x. (Ok record { grant = act x; access = b x; offset = o x % z x; passed = neither }, t)) ∙ sym q ∙ told
+      (λ x. (Ok record { grant = act x; access = b x; offset = o x % z x; passed = neither; stores = None }, t)) ∙ sym q ∙ told
 
   pub unasked : {r : Refused} → (accepted code ≡ false) × (r.number ≡ code / refusal_unit)
       → ◌≡◌ {A = Result Cycle Refused × List ℕ} (Err r, t) (asked_of inputs number i s)
@@ -73,12 +76,12 @@ module _ (inputs : Inputs) (number : ℕ) (i m s : List ℕ) (o : Option (Result
 
   module _ (b : Before) {high low phi1 : ℕ}
       (hi : high ≡ bool_byte inputs.ba_high) (lo : low ≡ bool_byte inputs.ba_low) (ph : phi1 ≡ bool_byte inputs.ba_high_phi1)
-      (k : ℕ × List ℕ × List ℕ × List ℕ) (c : k ≡ reu_cycle i m t high number low phi1) where
-    abbrev cycle : List ℕ → (ℕ × List ℕ × List ℕ × List ℕ)
-    cycle l = reu_cycle i m l (bit_of inputs.ba_high) number (bit_of inputs.ba_low) (bit_of inputs.ba_high_phi1)
+      (k : Logged × List ℕ × List ℕ × List ℕ) (c : k ≡ logged_cycle i m t high number low phi1) where
+    abbrev cycle : List ℕ → (Logged × List ℕ × List ℕ × List ℕ)
+    cycle l = logged_cycle i m l (bit_of inputs.ba_high) number (bit_of inputs.ba_low) (bit_of inputs.ba_high_phi1)
 
     bits : k ≡ cycle t
-    bits = c ∙ (λ j. reu_cycle i m t (as_bit _ hi j) number (as_bit _ lo j) (as_bit _ ph j))
+    bits = c ∙ (λ j. logged_cycle i m t (as_bit _ hi j) number (as_bit _ lo j) (as_bit _ ph j))
 
     -- as if nothing had been asked
     unasked_or : Before → k ≡ cycle s
@@ -91,62 +94,62 @@ module _ (inputs : Inputs) (number : ℕ) (i m s : List ℕ) (o : Option (Result
     same : k ≡ cycle s
     same = unasked_or b
 
-    is : accepted k.0 ≡ accepted (cycle s).0
-    is = ap (λ (y : ℕ × List ℕ × List ℕ × List ℕ). accepted y.0) same
+    is : accepted k.0.answer ≡ accepted (cycle s).0.answer
+    is = ap (λ (y : Logged × List ℕ × List ℕ × List ℕ). accepted y.0.answer) same
 
     -- a cycle that is accepted had a bus of the right length, so that it was asked
-    never : (length m ≡ bus_size → ⊥) → accepted k.0 ≡ true → ⊥
+    never : (length m ≡ bus_size → ⊥) → accepted k.0.answer ≡ true → ⊥
     never other ok =
         let no = other_bus m other i s (bit_of inputs.ba_high) number (bit_of inputs.ba_low) (bit_of inputs.ba_high_phi1) in
         false≢true (sym no ∙ sym is ∙ ok)
 
-    asked_by : {x : Result Cycle Refused} → Before → accepted k.0 ≡ true → o ≡ Some x → x ≡ (asked_of inputs number i s).0
+    asked_by : {x : Result Cycle Refused} → Before → accepted k.0.answer ≡ true → o ≡ Some x → x ≡ (asked_of inputs number i s).0
     asked_by {x} (inl p) ok e =
         ap (λ (y : Option (Result Cycle Refused)). unwrap_or y x) (sym e ∙ p.1.1)
         ∙ ap (λ (y : Result Cycle Refused × List ℕ). y.0) p.1.2
     asked_by (inr p) ok e = absurd (never p.0 ok)
 
-    no_none : Before → accepted k.0 ≡ true → o ≡ None → ⊥
+    no_none : Before → accepted k.0.answer ≡ true → o ≡ None → ⊥
     no_none (inl p) ok e = false≢true (ap is_some (sym e ∙ p.1.1))
     no_none (inr p) ok e = never p.0 ok
 
-    pub was_asked : accepted k.0 ≡ true → o ≡ None → ⊥
+    pub was_asked : accepted k.0.answer ≡ true → o ≡ None → ⊥
     was_asked = no_none b
 
     abbrev Done : Type 0
     Done = Result Cycle Refused × List ℕ × List ℕ × List ℕ
 
-    pub not_run : {r : Refused} → (accepted k.0 ≡ false) × (r.number ≡ k.0 / refusal_unit)
+    pub not_run : {r : Refused} → (accepted k.0.answer ≡ false) × (r.number ≡ k.0.answer / refusal_unit)
         → ◌≡◌ {A = Done} (Err r, k.1, k.2, k.3) (cycle_of inputs number i m s)
     unfolding cycle_of
     not_run e =
-        let no : accepted (cycle s).0 ≡ false = sym is ∙ e.0 in
+        let no : accepted (cycle s).0.answer ≡ false = sym is ∙ e.0 in
         rw no
         ((λ j. (Err record { number = e.1 j }, k.1, k.2, k.3))
-        ∙ (λ j. (Err (refused_in (same j).0), (same j).1, (same j).2, (same j).3)))
+        ∙ (λ j. (Err (refused_in (same j).0.answer), (same j).1, (same j).2, (same j).3)))
 
     module _ {x : Result Cycle Refused} (e : o ≡ Some x) where
-      shown : accepted k.0 ≡ true → ◌≡◌ {A = Done} (with_marks x k.0, k.1, k.2, k.3) (cycle_of inputs number i m s)
+      shown : accepted k.0.answer ≡ true → ◌≡◌ {A = Done} (with_logged x k.0, k.1, k.2, k.3) (cycle_of inputs number i m s)
       unfolding cycle_of
       shown ok =
-          let here : accepted (cycle s).0 ≡ true = sym is ∙ ok in
-          rw here (λ j. (with_marks (asked_by b ok e j) (same j).0, (same j).1, (same j).2, (same j).3))
+          let here : accepted (cycle s).0.answer ≡ true = sym is ∙ ok in
+          rw here (λ j. (with_logged (asked_by b ok e j) (same j).0, (same j).1, (same j).2, (same j).3))
 
-      pub ran : {n : ℕ} {y : Cycle} {p : Passed} → (accepted k.0 ≡ true) × (n ≡ k.0) → x ≡ Ok y → p ≡ marks_of n
-          → ◌≡◌ {A = Done} (Ok record { grant = y.grant; access = y.access; offset = y.offset; passed = p }, k.1, k.2, k.3)
+      pub ran : {n : ℕ} {y : Cycle} {p : Passed} {l : Handed} → (accepted k.0.answer ≡ true) × (n ≡ k.0.answer) → x ≡ Ok y → p ≡ passed_in n → l ≡ k.0.stores
+          → ◌≡◌ {A = Done} (Ok record { grant = y.grant; access = y.access; offset = y.offset; passed = p; stores = l }, k.1, k.2, k.3)
           (cycle_of inputs number i m s)
-      ran {y = y} ok f q =
-          let marks = q ∙ ap marks_of ok.1 in
-          let as_asked : ◌≡◌ {A = Done} (with_marks x k.0, k.1, k.2, k.3) (with_marks (Ok y) k.0, k.1, k.2, k.3) =
-          λ j. (with_marks (f j) k.0, k.1, k.2, k.3) in
-          (λ j. (Ok record { grant = y.grant; access = y.access; offset = y.offset; passed = marks j }, k.1, k.2, k.3))
+      ran {y = y} ok f q z =
+          let marks = q ∙ ap passed_in ok.1 in
+          let as_asked : ◌≡◌ {A = Done} (with_logged x k.0, k.1, k.2, k.3) (with_logged (Ok y) k.0, k.1, k.2, k.3) =
+          λ j. (with_logged (f j) k.0, k.1, k.2, k.3) in
+          (λ j. (Ok record { grant = y.grant; access = y.access; offset = y.offset; passed = marks j; stores = z j }, k.1, k.2, k.3))
           ∙ sym as_asked ∙ shown ok.0
 
-      pub ran_unasked : {r : Refused} → accepted k.0 ≡ true → x ≡ Err r
+      pub ran_unasked : {r : Refused} → accepted k.0.answer ≡ true → x ≡ Err r
           → ◌≡◌ {A = Done} (Err r, k.1, k.2, k.3) (cycle_of inputs number i m s)
       ran_unasked {r} ok f =
-          let as_asked : ◌≡◌ {A = Done} (with_marks x k.0, k.1, k.2, k.3) (with_marks (Err r) k.0, k.1, k.2, k.3) =
-          λ j. (with_marks (f j) k.0, k.1, k.2, k.3) in
+          let as_asked : ◌≡◌ {A = Done} (with_logged x k.0, k.1, k.2, k.3) (with_logged (Err r) k.0, k.1, k.2, k.3) =
+          λ j. (with_logged (f j) k.0, k.1, k.2, k.3) in
           sym as_asked ∙ shown ok
 
 -- ---- a run: a cycle, and one less to go

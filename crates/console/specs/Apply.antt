@@ -2,6 +2,7 @@
 -- t is the line that was typed, c the time.
 use Rattle.std.specs.Prelude.{ℕ, ◌/◌, cond, List, [], eqb, Option, Some, None, Result, unwrap_or}
 use Rattle.transfer.specs.Memory.{zeros}
+use Rattle.regs.specs.Stores.{Handed}
 use Rattle.reu.specs.Exports.{refusal_unit, reu_dma_active, reu_new, reu_reset, reu_set_enabled, reu_set_size, reu_trigger_ff00}
 use Rattle.pane.specs.Answers.{accepted, refused_by}
 use Rattle.text.specs.Shown.{◌⊕◌, ascii, decimal_of, text_of}
@@ -15,7 +16,7 @@ use Rattle.lines.specs.Clock.{Time, inputs_shown, letter_of, time_of}
 use Rattle.lines.specs.Commands.{size_typed}
 use Rattle.lines.specs.Memory.{address, stored}
 use Rattle.console.specs.Registers.{after_read, read_text, warning_of, written}
-use Rattle.console.specs.Step.{Running, cycle_line, cycle_of, go_of, run_line, started, time_after}
+use Rattle.console.specs.Step.{Running, cycle_line, cycle_of, go_of, run_line, started, stores_in, time_after}
 
 -- the time, what is said, the image, the bus and the storage
 abbrev pub Outcome : Type 0
@@ -54,12 +55,21 @@ step_outcome c i m s =
     let x : (Result Done Refused × List ℕ × List ℕ × List ℕ) = cycle_of (inputs_shown (letter_of c)) c.cycle i m s in
     (time_after (time_of c) x.0, Some (cycle_line c x.0 x.2 x.3), x.1, x.2, x.3)
 
+-- what that cycle stores
+unfoldable pub step_stores : Clock → List ℕ → List ℕ → List ℕ → Handed
+step_stores c i m s = stores_in (cycle_of (inputs_shown (letter_of c)) c.cycle i m s).0
+
 -- `g`: cycles until the command ends; a swap of 65,536 bytes takes half the limit
 unfoldable pub go_outcome : List ℕ → Clock → List ℕ → List ℕ → List ℕ → Outcome
 go_outcome t c i m s =
     let x : Running = go_of (count_or t 0x40000) (started c, i, m, s) in
     cond (eqb (reu_dma_active i) 0) (time_of c, Some ([] ⊕ ascii "no command runs (an armed one waits for ff00)"), i, m, s)
     (time_of x.0.clock, Some (run_line x.0 x.1), x.1, x.2, x.3)
+
+-- what the last of these cycles stores; nothing, where no command runs
+unfoldable pub go_stores : List ℕ → Clock → List ℕ → List ℕ → List ℕ → Handed
+go_stores t c i m s =
+    cond (eqb (reu_dma_active i) 0) None (go_of (count_or t 0x40000) (started c, i, m, s)).0.stores
 
 -- ---- the commands
 
@@ -83,3 +93,8 @@ apply_of (Some Disable) t c i m s = (time_of c, None, (reu_set_enabled i s 0).1,
 apply_of (Some New) t c i m s = ((0, [], 0), None, (reu_new i).1, zeros m, zeros s)
 apply_of (Some G) t c i m s = go_outcome t c i m s
 apply_of other t c i m s = let x : (Time × Option (List ℕ) × List ℕ) = control_of other t c i in (x.0, x.1, x.2, m, s)
+
+-- of these `g` alone makes cycles; L5: "any other step hands out none"
+unfoldable pub apply_stores : Option Command → List ℕ → Clock → List ℕ → List ℕ → List ℕ → Handed
+apply_stores (Some G) t c i m s = go_stores t c i m s
+apply_stores other t c i m s = None

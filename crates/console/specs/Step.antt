@@ -1,10 +1,14 @@
 -- Bus cycles: one by one, or until the command ends. i is the image, m the bus, s the storage.
-use Rattle.std.specs.Prelude.{ℕ, zero, suc, ◌+◌, ◌/◌, ◌%◌, ◌^◌, Bool, cond, ◌||◌, List, [], ◌∷◌, eqb, Result, Ok, Err}
-use Rattle.transfer.specs.Bytes.{bit, bit_of}
-use Rattle.transfer.specs.Dma.{neither}
+use Rattle.std.specs.Prelude.{ℕ, zero, suc, ◌+◌, ◌/◌, ◌%◌, ◌^◌, Bool, cond, List, [], ◌∷◌, eqb, None, Result, Ok, Err}
+use Rattle.transfer.specs.Bytes.{bit_of}
+use Rattle.transfer.specs.Dma.{either, neither, passed_in}
 use Rattle.transfer.specs.declared.dma.Passed.{Passed}
+use Rattle.regs.specs.Stores.{Handed}
+use Rattle.regs.specs.declared.stores.RegisterStore.{RegisterStore}
 use Rattle.image.specs.Layout.{place_of, transfer_exp}
-use Rattle.reu.specs.Exports.{refusal_unit, reu_bus_action, reu_c64_access, reu_cycle, reu_dma_active}
+use Rattle.reu.specs.Exports.{refusal_unit, reu_bus_action, reu_c64_access, reu_dma_active}
+use Rattle.reu.specs.Logged.{logged_cycle}
+use Rattle.reu.specs.declared.Logged.{Logged}
 use Rattle.pane.specs.Answers.{accepted, refused_as, refused_by}
 use Rattle.pane.specs.Rows.{copy_of, long_at, size_in}
 use Rattle.text.specs.Bytes.{byte_at}
@@ -18,7 +22,7 @@ use Rattle.transfer.specs.declared.memory.C64Address.{C64Address}
 use Rattle.transfer.specs.declared.timing.ReuBusAction.{ReuBusAction}
 use Rattle.transfer.specs.declared.timing.ReuBusAction.TheVariants.{Cpu, Hold, Transfer}
 use Rattle.transfer.specs.declared.timing.ReuC64Access.{ReuC64Access}
-use Rattle.transfer.specs.declared.timing.ReuC64Access.TheVariants.{None, Read, Write}
+use Rattle.transfer.specs.declared.timing.ReuC64Access.TheVariants.{Read, Write}
 use Rattle.lines.specs.Clock.{Time, inputs_shown, letter_of, next_clock, next_time}
 
 -- ---- one cycle
@@ -31,7 +35,7 @@ action_in value = cond (eqb value 0) Cpu (cond (eqb value 1) Hold Transfer)
 unfoldable pub access_in : ℕ → ReuC64Access
 access_in value =
     let address : C64Address = record { 0 = value % 65536 } in
-    cond (eqb (value / 65536) 0) None (cond (eqb (value / 65536) 1) (Read address) (Write address))
+    cond (eqb (value / 65536) 0) ReuC64Access.None (cond (eqb (value / 65536) 1) (Read address) (Write address))
 
 -- that it was refused, by what was answered: no access was made
 abbrev pub refused_in : ℕ → Refused
@@ -42,30 +46,34 @@ abbrev pub access_ready : List ℕ → ReuC64Access
 access_ready i = access_in (cond (accepted (reu_c64_access i)) (reu_c64_access i) 0)
 
 -- "it asks `bus_action`": asked before it of a copy of the image, with the access that is then ready and the storage's offset by the
--- expansion address and the size in it (L4: "folding keeps that many low bits"), and marks nothing yet; and the storage after that
+-- expansion address and the size in it (L4: "folding keeps that many low bits"), and marks and stores nothing yet; and the storage after
+-- that
 unfoldable pub asked_of : Inputs → ℕ → List ℕ → List ℕ → (Result Cycle Refused × List ℕ)
 asked_of inputs number i s =
     let g : (ℕ × List ℕ × List ℕ) = reu_bus_action (copy_of i) s (bit_of inputs.ba_high) (bit_of inputs.ba_high_phi1) number in (
       cond (accepted g.0)
-          (Ok record { grant = action_in g.0; access = access_ready g.1; offset = long_at g.1 (place_of transfer_exp) % size_in g.1; passed = neither })
+          (Ok record { grant = action_in g.0; access = access_ready g.1; offset = long_at g.1 (place_of transfer_exp) % size_in g.1; passed = neither; stores = None })
           (Err (refused_in g.0)),
       g.2,
     )
 
--- which address ran over its top, by the cycle's answer: "plus 2 and plus 4"
-abbrev pub marks_of : ℕ → Passed
-marks_of answer = record { c64 = bit answer 1; expansion = bit answer 2 }
+-- a cycle that was asked for, with the marks in its answer, "plus 2 and plus 4", and with what it stored
+abbrev pub with_logged : Result Cycle Refused → Logged → Result Cycle Refused
+with_logged (Ok x) l =
+    Ok record { grant = x.grant; access = x.access; offset = x.offset; passed = passed_in l.answer; stores = l.stores }
+with_logged (Err refused) l = Err refused
 
--- a cycle that was asked for, with them
-abbrev pub with_marks : Result Cycle Refused → ℕ → Result Cycle Refused
-with_marks (Ok x) answer = Ok record { grant = x.grant; access = x.access; offset = x.offset; passed = marks_of answer }
-with_marks (Err refused) answer = Err refused
-
--- the library's cycle: what it leaves; shown is what was asked before it with the marks that it answers, or that it was refused
+-- the library's cycle: what it leaves; shown is what was asked before it with the marks that it answers and the stores that it hands out
+-- (L5: "index and value, beside its answer"), or that it was refused
 unfoldable pub cycle_of : Inputs → ℕ → List ℕ → List ℕ → List ℕ → (Result Cycle Refused × List ℕ × List ℕ × List ℕ)
 cycle_of inputs number i m s =
-    let k : (ℕ × List ℕ × List ℕ × List ℕ) = reu_cycle i m s (bit_of inputs.ba_high) number (bit_of inputs.ba_low) (bit_of inputs.ba_high_phi1) in
-    (cond (accepted k.0) (with_marks (asked_of inputs number i s).0 k.0) (Err (refused_in k.0)), k.1, k.2, k.3)
+    let k : (Logged × List ℕ × List ℕ × List ℕ) = logged_cycle i m s (bit_of inputs.ba_high) number (bit_of inputs.ba_low) (bit_of inputs.ba_high_phi1) in
+    (cond (accepted k.0.answer) (with_logged (asked_of inputs number i s).0 k.0) (Err (refused_in k.0.answer)), k.1, k.2, k.3)
+
+-- what a cycle stored; one that was refused stored nothing
+abbrev pub stores_in : Result Cycle Refused → Handed
+stores_in (Ok x) = x.stores
+stores_in (Err refused) = None
 
 -- the time after a cycle: one that was refused takes none
 unfoldable pub time_after : Time → Result Cycle Refused → Time
@@ -90,7 +98,7 @@ grant_text Transfer = ascii "Transfer"
 
 -- an access: "a read" or "a write", and "the address"
 unfoldable pub access_text : List ℕ → ReuC64Access → List ℕ
-access_text t None = t ⊕ ascii "  no access"
+access_text t ReuC64Access.None = t ⊕ ascii "  no access"
 access_text t (Read a) = t ⊕ ascii "  read  " ⊕ hex_of 4 a.0
 access_text t (Write a) = t ⊕ ascii "  write " ⊕ hex_of 4 a.0
 
@@ -101,7 +109,7 @@ bytes_at t a offset m s =
 
 -- none, where there is no access
 unfoldable pub bytes_by : List ℕ → ReuC64Access → ℕ → List ℕ → List ℕ → List ℕ
-bytes_by t None offset m s = t
+bytes_by t ReuC64Access.None offset m s = t
 bytes_by t (Read a) offset m s = bytes_at t a offset m s
 bytes_by t (Write a) offset m s = bytes_at t a offset m s
 
@@ -122,6 +130,10 @@ done_text t (Err refused) m s = t ⊕ refused_as refused.number
 unfoldable pub cycle_line : Clock → Result Cycle Refused → List ℕ → List ℕ → List ℕ
 cycle_line c done m s = done_text (ba_text ([] ⊕ decimal_of c.cycle) (letter_of c)) done m s
 
+-- a register that was stored, by its address, and the byte: "index and value"
+abbrev pub store_line : RegisterStore → List ℕ
+store_line x = [] ⊕ hex_of 4 (0xDF00 + x.index) ⊕ ascii " stored " ⊕ hex_of 2 x.value
+
 -- ---- until the command ends
 
 -- a run, with the image, the bus and the storage
@@ -129,20 +141,18 @@ abbrev pub Running : Type 0
 Running = Run × List ℕ × List ℕ × List ℕ
 
 abbrev pub started : Clock → Run
-started c = record { clock = c; granted = 0; held = 0; passed = neither }
-
--- a mark of either
-abbrev pub either_of : Passed → Passed → Passed
-either_of p q = record { c64 = p.c64 || q.c64; expansion = p.expansion || q.expansion }
+started c = record { clock = c; granted = 0; held = 0; passed = neither; stores = None }
 
 -- a cycle more by its grant; 64 bits
-abbrev pub counted_by : ReuBusAction → Run → Passed → Run
-counted_by Transfer r p = record { clock = next_clock r.clock; granted = (r.granted + 1) % 2 ^ 64; held = r.held; passed = p }
-counted_by other r p = record { clock = next_clock r.clock; granted = r.granted; held = (r.held + 1) % 2 ^ 64; passed = p }
+abbrev pub counted_by : ReuBusAction → Run → Passed → Handed → Run
+counted_by Transfer r p l =
+    record { clock = next_clock r.clock; granted = (r.granted + 1) % 2 ^ 64; held = r.held; passed = p; stores = l }
+counted_by other r p l =
+    record { clock = next_clock r.clock; granted = r.granted; held = (r.held + 1) % 2 ^ 64; passed = p; stores = l }
 
--- a cycle more, whose marks stay for the rest of the run; one that is refused is none
+-- a cycle more, whose marks stay for the rest of the run, and whose stores until the next; one that is refused is none
 unfoldable pub counted : Run → Result Cycle Refused → Run
-counted r (Ok x) = counted_by x.grant r (either_of r.passed x.passed)
+counted r (Ok x) = counted_by x.grant r (either r.passed x.passed) x.stores
 counted r (Err refused) = r
 
 -- a cycle while a command runs: none once it has ended, and none of a refused image

@@ -1,11 +1,11 @@
-// What a command does to the machine and to the time, and what it says. Commands that only show, and those on files, are not here.
+// What a command does to the machine and to the time, what it says, and what it stores. Commands that only show, and those on files, are not here.
 // Image, bus and storage one by one: see lib.rt.
 ghost use Rattle.std.specs.Prelude.{◌≡◌, ℕ, []};
 ghost use Rattle.transfer.specs.Memory.{zeros};
 ghost use Rattle.text.specs.Shown.{◌⊕◌};
 ghost use Rattle.text.specs.Typed.{word_of};
 ghost use Rattle.reu.specs.Exports.{reu_new};
-ghost use Rattle.console.specs.Apply.{apply_of, bus_hint, control_of, count_or, cycle_time, cycle_text, go_outcome, size_text, sized, step_outcome};
+ghost use Rattle.console.specs.Apply.{apply_of, apply_stores, bus_hint, control_of, count_or, cycle_time, cycle_text, go_outcome, go_stores, size_text, sized, step_outcome, step_stores};
 ghost use Rattle.console.specs.Said.{said_of};
 ghost use Rattle.lines.specs.Clock.{time_of};
 ghost use Rattle.lines.specs.Keys.{command_of};
@@ -13,13 +13,14 @@ ghost use Rattle.lines.specs.Memory.{stored};
 ghost use Rattle.console.specs.Registers.{warning_of, written};
 
 use crate::registers;
-use crate::step::{after, cycle_line, go, run_cycle, run_line};
+use crate::step::{after, cycle_line, go, run_cycle, run_line, stores_in};
 use controller::Refusal;
 use lines::clock::{Clock, Inputs};
 use lines::commands::{command, size_typed};
 use lines::keys::Command;
 use lines::memory::{address_of, store};
 use pane::answers::answer;
+use regs::{COUNTERS, RegisterStore};
 use text::faults::value;
 use text::line::Line;
 use text::words::{word, word_count};
@@ -32,6 +33,8 @@ pub struct Applied {
     pub clock: Clock,
     // A line to show, where there is something to say.
     pub said: Option<Line>,
+    // The registers that were stored, where a command ended with Autoload.
+    pub stores: Option<[RegisterStore; COUNTERS]>,
 }
 
 // A command's number, or another where it has none.
@@ -44,12 +47,24 @@ pub fn count_or(line: &[u8], other: u32) -> u32
     other
 }
 
+// A time, and what is said: no cycle is made, so nothing is stored.
+fn spoken(clock: Clock, said: Option<Line>) -> Applied
+    ensures { result ≡ record { clock = clock; said = said; stores = None } }
+{
+    Applied {
+        clock,
+        said,
+        stores: None,
+    }
+}
+
 // A time, of which nothing is said.
 fn quiet(clock: Clock) -> Applied
     ensures clock_value { result.clock ≡ clock }
     ensures said_value { said_of result.said ≡ None }
+    ensures stores_value { result.stores ≡ None }
 {
-    Applied { clock, said: None }
+    spoken(clock, None)
 }
 
 // ---- bytes: > and >s
@@ -111,6 +126,7 @@ fn set_size(line: &[u8], image: &mut [u8]) -> Option<Line>
 fn renew(image: &mut [u8], bus: &mut [u8], storage: &mut [u8]) -> Applied
     ensures clock_value { time_of result.clock ≡ (0, [], 0) }
     ensures said_value { said_of result.said ≡ None }
+    ensures stores_value { result.stores ≡ None }
     ensures image_after { image.new ≡ (reu_new image.old).1 }
     ensures bus_after { bus.new ≡ zeros bus.old }
     ensures storage_after { storage.new ≡ zeros storage.old }
@@ -126,6 +142,7 @@ fn renew(image: &mut [u8], bus: &mut [u8], storage: &mut [u8]) -> Applied
 fn set_ba(line: &[u8], clock: Clock) -> Applied
     ensures clock_value { time_of result.clock ≡ (clock.cycle, [] ⊕ word_of 1 line.now, 0) }
     ensures said_value { said_of result.said ≡ None }
+    ensures stores_value { result.stores ≡ None }
 {
     quiet(Clock {
         cycle: clock.cycle,
@@ -137,6 +154,7 @@ fn set_ba(line: &[u8], clock: Clock) -> Applied
 fn set_cycle(line: &[u8], clock: Clock) -> Applied
     ensures clock_value { time_of result.clock ≡ cycle_time line.now clock }
     ensures said_value { said_of result.said ≡ cycle_text line.now clock }
+    ensures stores_value { result.stores ≡ None }
 {
     if word_count(line) == 2 {
         return quiet(Clock {
@@ -145,16 +163,14 @@ fn set_cycle(line: &[u8], clock: Clock) -> Applied
         });
     }
     let said = Line::from(b"the next cycle is ").decimal(clock.cycle);
-    Applied {
-        clock,
-        said: Some(said),
-    }
+    spoken(clock, Some(said))
 }
 
 // One bus cycle: what it was granted, and the bytes after it.
-#[tactic(auto, unfolding(crate::specs::Apply::step_outcome))]
+#[tactic(auto, unfolding(crate::specs::Apply::step_outcome, crate::specs::Apply::step_stores))]
 pub fn step(clock: Clock, image: &mut [u8], bus: &mut [u8], storage: &mut [u8]) -> Applied
-    ensures { (time_of result.clock, said_of result.said, image.new, bus.new, storage.new) ≡ step_outcome clock image.old bus.old storage.old }
+    ensures outcome { (time_of result.clock, said_of result.said, image.new, bus.new, storage.new) ≡ step_outcome clock image.old bus.old storage.old }
+    ensures stores_value { result.stores ≡ step_stores clock image.old bus.old storage.old }
 {
     let inputs = clock.inputs().unwrap_or(Inputs::NOTHING);
     let done = run_cycle(inputs, clock.cycle, image, bus, storage);
@@ -162,10 +178,11 @@ pub fn step(clock: Clock, image: &mut [u8], bus: &mut [u8], storage: &mut [u8]) 
     Applied {
         clock: after(clock, done),
         said: Some(said),
+        stores: stores_in(done),
     }
 }
 
-#[tactic(auto, unfolding(crate::specs::Apply::go_outcome))]
+#[tactic(auto, unfolding(crate::specs::Apply::go_outcome, crate::specs::Apply::go_stores))]
 fn run_command(
     line: &[u8],
     clock: Clock,
@@ -173,20 +190,19 @@ fn run_command(
     bus: &mut [u8],
     storage: &mut [u8],
 ) -> Applied
-    ensures { (time_of result.clock, said_of result.said, image.new, bus.new, storage.new) ≡ go_outcome line.now clock image.old bus.old storage.old }
+    ensures outcome { (time_of result.clock, said_of result.said, image.new, bus.new, storage.new) ≡ go_outcome line.now clock image.old bus.old storage.old }
+    ensures stores_value { result.stores ≡ go_stores line.now clock image.old bus.old storage.old }
 {
     if reu::reu_dma_active(image) == 0 {
         let said = Line::from(b"no command runs (an armed one waits for ff00)");
-        return Applied {
-            clock,
-            said: Some(said),
-        };
+        return spoken(clock, Some(said));
     }
     let run = go(clock, count_or(line, LIMIT), image, bus, storage);
     let said = run_line(&run, image);
     Applied {
         clock: run.clock,
         said: Some(said),
+        stores: run.stores,
     }
 }
 
@@ -195,7 +211,8 @@ fn run_command(
 // A command about the controller or the time alone: nothing, where it is none of these.
 #[tactic(auto, unfolding(crate::specs::Apply::control_of))]
 fn control(line: &[u8], clock: Clock, image: &mut [u8]) -> Applied
-    ensures { (time_of result.clock, said_of result.said, image.new) ≡ control_of (command_of (word_of 0 line.now)) line.now clock image.old }
+    ensures outcome { (time_of result.clock, said_of result.said, image.new) ≡ control_of (command_of (word_of 0 line.now)) line.now clock image.old }
+    ensures stores_value { result.stores ≡ None }
 {
     let said = match command(line) {
         Some(Command::W) => write(line, image),
@@ -213,11 +230,11 @@ fn control(line: &[u8], clock: Clock, image: &mut [u8]) -> Applied
         Some(Command::Cycle) => return set_cycle(line, clock),
         _ => None,
     };
-    Applied { clock, said }
+    spoken(clock, said)
 }
 
 // The command that a line is.
-#[tactic(auto, unfolding(crate::specs::Apply::apply_of))]
+#[tactic(auto, unfolding(crate::specs::Apply::apply_of, crate::specs::Apply::apply_stores))]
 pub fn apply(
     line: &[u8],
     clock: Clock,
@@ -225,7 +242,8 @@ pub fn apply(
     bus: &mut [u8],
     storage: &mut [u8],
 ) -> Applied
-    ensures { (time_of result.clock, said_of result.said, image.new, bus.new, storage.new) ≡ apply_of (command_of (word_of 0 line.now)) line.now clock image.old bus.old storage.old }
+    ensures outcome { (time_of result.clock, said_of result.said, image.new, bus.new, storage.new) ≡ apply_of (command_of (word_of 0 line.now)) line.now clock image.old bus.old storage.old }
+    ensures stores_value { result.stores ≡ apply_stores (command_of (word_of 0 line.now)) line.now clock image.old bus.old storage.old }
 {
     let said = match command(line) {
         Some(Command::Poke) => poke(line, bus),
@@ -245,5 +263,5 @@ pub fn apply(
         Some(Command::G) => return run_command(line, clock, image, bus, storage),
         _ => return control(line, clock, image),
     };
-    Applied { clock, said }
+    spoken(clock, said)
 }

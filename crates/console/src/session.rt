@@ -3,15 +3,19 @@
 // Image, bus and storage one by one: see lib.rt.
 ghost use Rattle.std.specs.Prelude.{◌≡◌, false, []};
 ghost use Rattle.text.specs.Faults.{Says};
+ghost use Rattle.text.specs.Typed.{word_of};
 ghost use Rattle.lines.specs.Clock.{time_of};
+ghost use Rattle.lines.specs.Keys.{command_of};
+ghost use Rattle.console.specs.Apply.{apply_stores, step_stores};
 ghost use Rattle.console.specs.Said.{obeyed_of, said_of};
-ghost use Rattle.console.specs.Session.{cycle_turn, ended_after, ended_session, fault_in, held_of, obey_turn, steps_of, turn_of};
+ghost use Rattle.console.specs.Session.{cycle_turn, ended_after, ended_session, fault_in, held_of, obey_turn, steps_of, turn_of, turn_stores};
 
 use crate::apply::{apply, count_or, step};
 use lines::clock::Clock;
 use lines::commands::{command, is_comment, line_fault};
 use lines::keys::Command;
 use pane::rows::size_in;
+use regs::{COUNTERS, RegisterStore};
 use text::line::Line;
 
 #[derive(Drop)]
@@ -30,6 +34,8 @@ pub struct Turned<'a> {
     pub said: Option<Line>,
     // The line that was obeyed, where one was.
     pub obeyed: Option<&'a [u8]>,
+    // The registers that were stored, where a command ended with Autoload.
+    pub stores: Option<[RegisterStore; COUNTERS]>,
 }
 
 impl Session {
@@ -58,7 +64,8 @@ impl Session {
 // ---- a turn is a cycle
 
 fn cycle<'a>(session: Session, image: &mut [u8], bus: &mut [u8], storage: &mut [u8]) -> Turned<'a>
-    ensures { (held_of result.session image.new bus.new storage.new, said_of result.said, obeyed_of result.obeyed) ≡ cycle_turn session image.old bus.old storage.old }
+    ensures outcome { (held_of result.session image.new bus.new storage.new, said_of result.said, obeyed_of result.obeyed) ≡ cycle_turn session image.old bus.old storage.old }
+    ensures stores_value { result.stores ≡ step_stores session.clock image.old bus.old storage.old }
 {
     let done = step(session.clock, image, bus, storage);
     Turned {
@@ -69,6 +76,7 @@ fn cycle<'a>(session: Session, image: &mut [u8], bus: &mut [u8], storage: &mut [
         },
         said: done.said,
         obeyed: None,
+        stores: done.stores,
     }
 }
 
@@ -100,7 +108,8 @@ fn obey<'a>(
     bus: &mut [u8],
     storage: &mut [u8],
 ) -> Turned<'a>
-    ensures { (held_of result.session image.new bus.new storage.new, said_of result.said, obeyed_of result.obeyed) ≡ obey_turn line.now session image.old bus.old storage.old }
+    ensures outcome { (held_of result.session image.new bus.new storage.new, said_of result.said, obeyed_of result.obeyed) ≡ obey_turn line.now session image.old bus.old storage.old }
+    ensures stores_value { result.stores ≡ apply_stores (command_of (word_of 0 line.now)) line.now session.clock image.old bus.old storage.old }
 {
     let done = apply(line, session.clock, image, bus, storage);
     Turned {
@@ -111,6 +120,7 @@ fn obey<'a>(
         },
         said: done.said,
         obeyed: Some(line),
+        stores: done.stores,
     }
 }
 
@@ -125,7 +135,7 @@ fn fault_in(image: &[u8], line: &[u8]) -> Result<(), Line>
 
 // `line` is the next line, which is not looked at while cycles are still to be stepped. One that cannot be obeyed is forgotten, and so is a
 // comment.
-#[tactic(auto, unfolding(crate::specs::Session::turn_of))]
+#[tactic(auto, unfolding(crate::specs::Session::turn_of, crate::specs::Session::turn_stores))]
 pub fn turn<'a>(
     session: Session,
     line: &'a [u8],
@@ -133,7 +143,8 @@ pub fn turn<'a>(
     bus: &mut [u8],
     storage: &mut [u8],
 ) -> Turned<'a>
-    ensures { (held_of result.session image.new bus.new storage.new, said_of result.said, obeyed_of result.obeyed) ≡ turn_of line.now session image.old bus.old storage.old }
+    ensures outcome { (held_of result.session image.new bus.new storage.new, said_of result.said, obeyed_of result.obeyed) ≡ turn_of line.now session image.old bus.old storage.old }
+    ensures stores_value { result.stores ≡ turn_stores line.now session image.old bus.old storage.old }
 {
     if session.left > 0 {
         return cycle(session, image, bus, storage);
@@ -143,12 +154,14 @@ pub fn turn<'a>(
             session,
             said: None,
             obeyed: None,
+            stores: None,
         },
         Ok(()) => obey(line, session, image, bus, storage),
         Err(fault) => Turned {
             session,
             said: Some(fault),
             obeyed: None,
+            stores: None,
         },
     }
 }

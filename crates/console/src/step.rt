@@ -5,25 +5,27 @@ ghost use Rattle.text.specs.Shown.{◌⊕◌, text_of};
 ghost use Rattle.lines.specs.Clock.{time_of};
 ghost use Rattle.pane.specs.declared.answers.Refused.{Refused};
 ghost use Rattle.console.specs.declared.step.Cycle.{Cycle};
-ghost use Rattle.console.specs.Step.{access_ready, access_text, action_in, advanced, asked_of, ba_text, bytes_at, bytes_by, counted, cycle_line, cycle_of, done_text, go_of, grant_text, mark_if, passed_text, run_line, run_text, started, time_after};
+ghost use Rattle.console.specs.Step.{access_ready, access_text, action_in, advanced, asked_of, ba_text, bytes_at, bytes_by, counted, cycle_line, cycle_of, done_text, go_of, grant_text, mark_if, passed_text, run_line, run_text, started, store_line, stores_in, time_after};
 
 use lines::clock::{Clock, Inputs};
 use pane::answers::{Refused, answer};
 use pane::rows::{copied, size_in, transfer_expansion};
+use regs::{COUNTERS, RegisterStore};
 use text::bytes::byte;
 use text::line::Line;
 use transfer::{C64Address, Passed, ReuBusAction, ReuC64Access};
 
 const BUS_SIZE: usize = 65536;
 
-// What a cycle was granted, the access to the bus that the controller had ready, the offset in the storage, and which address ran over
-// its top.
+// What a cycle was granted, the access to the bus that the controller had ready, the offset in the storage, which address ran over its
+// top, and the registers that it stored where it ended a command with Autoload.
 #[derive(Clone, Copy, PartialEq, Eq, Debug)]
 pub struct Cycle {
     pub grant: ReuBusAction,
     pub access: ReuC64Access,
     pub offset: u32,
     pub passed: Passed,
+    pub stores: Option<[RegisterStore; COUNTERS]>,
 }
 
 // ---- numbers of the calls, as the C interface has them
@@ -43,8 +45,8 @@ fn access_ready(image: &[u8]) -> ReuC64Access
     ReuC64Access::try_from(value).unwrap_or(ReuC64Access::None)
 }
 
-// The grant of the cycle that comes next, asked of a copy of the image; what passes a top only the cycle itself answers. What the
-// asking may write, the byte of a swap that is given up, the cycle writes again itself.
+// The grant of the cycle that comes next, asked of a copy of the image; what passes a top and what is stored only the cycle itself
+// says. What the asking may write, the byte of a swap that is given up, the cycle writes again itself.
 fn ask(inputs: Inputs, number: u64, image: &[u8], storage: &mut [u8]) -> Result<Cycle, Refused>
     ensures { ◌≡◌ {A = Result Cycle Refused × List ℕ} (result, storage.new) (asked_of inputs number image.now storage.old) }
 {
@@ -57,10 +59,12 @@ fn ask(inputs: Inputs, number: u64, image: &[u8], storage: &mut [u8]) -> Result<
         access: access_ready(&copy),
         offset: transfer_expansion(&copy) % size_in(&copy),
         passed: Passed::NEITHER,
+        stores: None,
     })
 }
 
-// One bus cycle. One that is lent a bus of another length is refused and writes nothing, so nothing is asked before it.
+// One bus cycle, with the stores that the library hands out. One that is lent a bus of another length is refused and writes nothing, so
+// nothing is asked before it.
 pub fn run_cycle(
     inputs: Inputs,
     number: u64,
@@ -78,11 +82,13 @@ pub fn run_cycle(
     let high = u32::from(inputs.ba_high);
     let phi1 = u32::from(inputs.ba_high_phi1);
     let low = u32::from(inputs.ba_low);
-    let value = answer(reu::reu_run_reu_cycle(image, bus, storage, high, number, low, phi1))?;
+    let logged = reu::logged_cycle(image, bus, storage, high, number, low, phi1);
+    let value = answer(logged.answer)?;
     // What was not refused had a bus of that length.
     let Some(asked) = asked else { unreachable!() };
     Ok(Cycle {
         passed: Passed::from(value),
+        stores: logged.stores,
         ..asked?
     })
 }
@@ -191,6 +197,23 @@ pub fn cycle_line(clock: &Clock, done: Result<Cycle, Refused>, bus: &[u8], stora
     done_text(line, done, bus, storage)
 }
 
+// A register that was stored, and the byte, also where it held that byte before.
+pub fn store_line(one: RegisterStore) -> Line
+    ensures { text_of result ≡ store_line one }
+{
+    Line::new()
+        .hex(4, 0xDF00 + u32::from(one.index))
+        .text(b" stored ")
+        .hex(2, u32::from(one.value))
+}
+
+// What a cycle stored; one that was refused stored nothing.
+pub fn stores_in(done: Result<Cycle, Refused>) -> Option<[RegisterStore; COUNTERS]>
+    ensures { result ≡ stores_in done }
+{
+    done.map_or(None, |cycle| cycle.stores)
+}
+
 // The time after a cycle: one that was refused takes none.
 #[tactic(auto, unfolding(crate::specs::Step::time_after))]
 pub fn after(clock: Clock, done: Result<Cycle, Refused>) -> Clock
@@ -204,13 +227,15 @@ pub fn after(clock: Clock, done: Result<Cycle, Refused>) -> Clock
 
 // ---- until the command ends
 
-// How far a run came, and which address ran over its top in any of its cycles.
+// How far a run came, which address ran over its top in any of its cycles, and what the last of them stored. The run ends with the
+// command, so no cycle before the last has stored anything.
 #[derive(Drop)]
 pub struct Run {
     pub clock: Clock,
     pub granted: u64,
     pub held: u64,
     pub passed: Passed,
+    pub stores: Option<[RegisterStore; COUNTERS]>,
 }
 
 // A cycle more, unless it was refused.
@@ -224,6 +249,7 @@ fn count(run: Run, done: Result<Cycle, Refused>) -> Run
     let run = Run {
         clock: run.clock.next(),
         passed: run.passed | cycle.passed,
+        stores: cycle.stores,
         ..run
     };
     match cycle.grant {
@@ -260,6 +286,7 @@ pub fn go(clock: Clock, limit: u32, image: &mut [u8], bus: &mut [u8], storage: &
         granted: 0,
         held: 0,
         passed: Passed::NEITHER,
+        stores: None,
     };
     for _ in 0..limit {
         run = advance(run, image, bus, storage);

@@ -1,3 +1,4 @@
+use Rattle.std.proofs.Common.{refl}
 use Rattle.std.proofs.lemmas.Result.{err_from_is_err_and}
 use mathlib.Core.Logic.{inl, inr}
 use Rattle.console.proofs.Runs.{Before, not_run, ran, ran_unasked, was_asked}
@@ -14,7 +15,7 @@ returns-in_err-value c =
     ] in
     rw (p.1, p.2)
     (not_run c.args.inputs c.args.number c.args.image.now c.args.bus.now c.args.storage.now _ _ b
-    c.from-high.ensures c.from-low.ensures c.from-phi1.ensures _ c.reu_run_reu_cycle.ensures c.in_err-value.ensures)
+    c.from-high.ensures c.from-low.ensures c.from-phi1.ensures _ c.logged_cycle-logged.ensures c.in_err-value.ensures)
 
 pub unreachable-requires : goal.unreachable-requires
 unreachable-requires c =
@@ -24,7 +25,7 @@ unreachable-requires c =
       | else-bus-eq-BUS_SIZE w ↦ inr (w.if-bus-eq-BUS_SIZE.false, w.asked-is, w.storage-is)
     ] in
     was_asked c.args.inputs c.args.number c.args.image.now c.args.bus.now c.args.storage.now _ _ b
-    c.from-high.ensures c.from-low.ensures c.from-phi1.ensures _ c.reu_run_reu_cycle.ensures c.in_ok-value.ensures.0 c.in_default.is
+    c.from-high.ensures c.from-low.ensures c.from-phi1.ensures _ c.logged_cycle-logged.ensures c.in_ok-value.ensures.0 c.in_default.is
 
 pub returns-in_err-asked : goal.returns-in_err-asked
 returns-in_err-asked c =
@@ -36,7 +37,7 @@ returns-in_err-asked c =
     ] in
     rw (p.1, p.2)
     (ran_unasked c.args.inputs c.args.number c.args.image.now c.args.bus.now c.args.storage.now _ _ b
-    c.from-high.ensures c.from-low.ensures c.from-phi1.ensures _ c.reu_run_reu_cycle.ensures c.in-Some.is c.in_ok-value.ensures.0 c.in_err-asked.was)
+    c.from-high.ensures c.from-low.ensures c.from-phi1.ensures _ c.logged_cycle-logged.ensures c.in-Some.is c.in_ok-value.ensures.0 c.in_err-asked.was)
 
 pub returns : goal.returns
 returns c =
@@ -46,4 +47,4 @@ returns c =
       | else-bus-eq-BUS_SIZE w ↦ inr (w.if-bus-eq-BUS_SIZE.false, w.asked-is, w.storage-is)
     ] in
     ran c.args.inputs c.args.number c.args.image.now c.args.bus.now c.args.storage.now _ _ b
-    c.from-high.ensures c.from-low.ensures c.from-phi1.ensures _ c.reu_run_reu_cycle.ensures c.in-Some.is c.in_ok-value.ensures c.in_ok-asked.was c.from.ensures
+    c.from-high.ensures c.from-low.ensures c.from-phi1.ensures _ c.logged_cycle-logged.ensures c.in-Some.is c.in_ok-value.ensures c.in_ok-asked.was c.from.ensures refl
