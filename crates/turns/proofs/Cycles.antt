@@ -9,7 +9,7 @@ use lib.ListN.{length}
 use borrow.Author.Tests.{eq-eqb, eqb-false, eqb-true}
 use Rattle.image.specs.Layout.{image_size, place_of, transfer_exp}
 use Rattle.controller.specs.declared.reu.Reu.{Reu}
-use Rattle.std.specs.Prelude.{Result, Ok, Err}
+use Rattle.std.specs.Prelude.{None, Result, Ok, Err}
 use Rattle.transfer.specs.Bytes.{bit_of}
 use Rattle.transfer.specs.Dma.{neither}
 use Rattle.controller.specs.Calls.{bus_action_call, cycle_call, numbered}
@@ -18,12 +18,14 @@ use Rattle.controller.specs.Refusals.{checked, refusal_of}
 use Rattle.image.specs.Open.{open_image}
 use Rattle.image.proofs.Opening.{opened_long}
 use Rattle.reu.specs.Exports.{change_both, change_storage, changed_both, changed_storage, code, flag, refusal, refusal_unit, reu_bus_action, reu_cycle}
+use Rattle.reu.specs.declared.Logged.{Logged}
+use Rattle.reu.specs.Logged.{logged_cycle}
 use Rattle.pane.specs.Answers.{accepted}
 use Rattle.pane.specs.Rows.{copy_of, long_at, size_in}
 use Rattle.pane.specs.declared.answers.Refused.{Refused}
 use Rattle.lines.specs.declared.clock.Inputs.{Inputs}
 use Rattle.console.specs.declared.step.Cycle.{Cycle}
-use Rattle.console.specs.Step.{access_ready, action_in, asked_of, cycle_of, refused_in, with_marks}
+use Rattle.console.specs.Step.{access_ready, action_in, asked_of, cycle_of, refused_in, with_logged}
 use Rattle.console.proofs.Answered.{large}
 use Rattle.turns.specs.Cycles.{GrantsAreTaken, ShownAs}
 use Rattle.turns.proofs.Taken.{Takes, calls_take}
@@ -115,6 +117,9 @@ module _ (inputs : Inputs) (number : ℕ) (i m s : List ℕ) where
   abbrev x : ℕ × List ℕ × List ℕ × List ℕ
   x = reu_cycle i m s high number low phi1
 
+  abbrev l : Logged
+  l = (logged_cycle i m s high number low phi1).0
+
   abbrev grant : List ℕ → (ℕ × List ℕ × List ℕ)
   grant j = reu_bus_action j s high phi1 number
 
@@ -122,7 +127,7 @@ module _ (inputs : Inputs) (number : ℕ) (i m s : List ℕ) where
   abbrev asked : List ℕ → Result Cycle Refused
   asked j =
       cond (accepted (grant j).0)
-      (Ok record { grant = action_in (grant j).0; access = access_ready (grant j).1; offset = long_at (grant j).1 (place_of transfer_exp) % size_in (grant j).1; passed = neither })
+      (Ok record { grant = action_in (grant j).0; access = access_ready (grant j).1; offset = long_at (grant j).1 (place_of transfer_exp) % size_in (grant j).1; passed = neither; stores = None })
       (Err (refused_in (grant j).0))
 
   abbrev Shown : Result Cycle Refused → Type 0
@@ -132,8 +137,8 @@ module _ (inputs : Inputs) (number : ℕ) (i m s : List ℕ) where
   unfolding cycle_of asked_of
   shown true ok =
       let it = taken i m s high number low phi1 ok in
-      let as_granted : Shown (with_marks (asked i) x.0) = rw it.1.1 it.1.2 in
-      rw ok (subst (λ (j : List ℕ). Shown (with_marks (asked j) x.0)) (copied i it.0) as_granted)
+      let as_granted : Shown (with_logged (asked i) l) = rw it.1.1 it.1.2 in
+      rw ok (subst (λ (j : List ℕ). Shown (with_logged (asked j) l)) (copied i it.0) as_granted)
   shown false bad = rw bad (refused i m s high number low phi1 bad)
 
 pub grants_are_taken : GrantsAreTaken

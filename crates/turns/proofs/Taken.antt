@@ -13,7 +13,7 @@ use Rattle.transfer.specs.declared.timing.ReuBusAction.{ReuBusAction}
 use Rattle.transfer.specs.declared.timing.ReuBusAction.TheVariants.{Cpu, Hold, Transfer}
 use Rattle.controller.specs.BusAction.{Granted, bus_action}
 use Rattle.controller.specs.Calls.{answered, bus_action_call, cycle_call, granted_answer, refused, step_number}
-use Rattle.transfer.specs.Dma.{passed_number}
+use Rattle.transfer.specs.Dma.{passed_in, passed_number}
 use Rattle.transfer.specs.Timing.{action_number}
 use Rattle.transfer.specs.Constants.{bus_size}
 use Rattle.controller.specs.TickDma.{Ticked, quiet_step, tick_dma}
@@ -22,20 +22,20 @@ use Rattle.controller.specs.Refusals.{checked, refusal_of}
 use Rattle.controller.proofs.Checked.{accepted as lengths}
 use Rattle.reu.specs.Exports.{changed_both, changed_storage, code, image_after, refusal}
 use Rattle.pane.specs.Answers.{accepted}
-use Rattle.console.specs.Step.{action_in, marks_of}
+use Rattle.console.specs.Step.{action_in}
 use Rattle.turns.specs.Cycles.{TakenAs}
 
 -- neither is refused, and it is shown with the grant g and the marks of its own answer
 abbrev pub Takes : List ℕ → (ℕ × List ℕ × List ℕ × List ℕ) → (ℕ × List ℕ × List ℕ) → Type 0
-Takes m k g = (accepted k.0 ≡ true) × (accepted g.0 ≡ true) × TakenAs m k g (action_in g.0) (marks_of k.0)
+Takes m k g = (accepted k.0 ≡ true) × (accepted g.0 ≡ true) × TakenAs m k g (action_in g.0) (passed_in k.0)
 
 -- an answer is accepted, and it is 1 and what its own marks add
-told : (p : Passed) → let n : ℕ = refusal 0 + step_number true p in (accepted n ≡ true) × (n ≡ 1 + passed_number (marks_of n))
+told : (p : Passed) → let n : ℕ = refusal 0 + step_number true p in (accepted n ≡ true) × (n ≡ 1 + passed_number (passed_in n))
 told p = go p.c64 p.expansion
   where
     go :
         (a b : Bool) → let n : ℕ = refusal 0 + step_number true record { c64 = a; expansion = b } in
-        (accepted n ≡ true) × (n ≡ 1 + passed_number (marks_of n))
+        (accepted n ≡ true) × (n ≡ 1 + passed_number (passed_in n))
     go true true = (refl, refl)
     go true false = (refl, refl)
     go false true = (refl, refl)
