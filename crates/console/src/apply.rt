@@ -13,14 +13,13 @@ ghost use Rattle.lines.specs.Memory.{stored};
 ghost use Rattle.console.specs.Registers.{warning_of, written};
 
 use crate::registers;
-use crate::step::{after, cycle_line, go, run_cycle, run_line, stores_in};
+use crate::step::{Stores, after, cycle_line, go, run_cycle, run_line, stores_in};
 use controller::Refusal;
 use lines::clock::{Clock, Inputs};
 use lines::commands::{command, size_typed};
 use lines::keys::Command;
 use lines::memory::{address_of, store};
 use pane::answers::answer;
-use regs::{COUNTERS, RegisterStore};
 use text::faults::value;
 use text::line::Line;
 use text::words::{word, word_count};
@@ -34,7 +33,7 @@ pub struct Applied {
     // A line to show, where there is something to say.
     pub said: Option<Line>,
     // The registers that were stored, where a command ended with Autoload.
-    pub stores: Option<[RegisterStore; COUNTERS]>,
+    pub stores: Stores,
 }
 
 // A command's number, or another where it has none.

@@ -17,15 +17,18 @@ use transfer::{C64Address, Passed, ReuBusAction, ReuC64Access};
 
 const BUS_SIZE: usize = 65536;
 
+// The registers that a cycle stored, in their order, where it ended a command with Autoload.
+pub type Stores = Option<[RegisterStore; COUNTERS]>;
+
 // What a cycle was granted, the access to the bus that the controller had ready, the offset in the storage, which address ran over its
-// top, and the registers that it stored where it ended a command with Autoload.
+// top, and what it stored.
 #[derive(Clone, Copy, PartialEq, Eq, Debug)]
 pub struct Cycle {
     pub grant: ReuBusAction,
     pub access: ReuC64Access,
     pub offset: u32,
     pub passed: Passed,
-    pub stores: Option<[RegisterStore; COUNTERS]>,
+    pub stores: Stores,
 }
 
 // ---- numbers of the calls, as the C interface has them
@@ -208,7 +211,7 @@ pub fn store_line(one: RegisterStore) -> Line
 }
 
 // What a cycle stored; one that was refused stored nothing.
-pub fn stores_in(done: Result<Cycle, Refused>) -> Option<[RegisterStore; COUNTERS]>
+pub fn stores_in(done: Result<Cycle, Refused>) -> Stores
     ensures { result ≡ stores_in done }
 {
     done.map_or(None, |cycle| cycle.stores)
@@ -235,7 +238,7 @@ pub struct Run {
     pub granted: u64,
     pub held: u64,
     pub passed: Passed,
-    pub stores: Option<[RegisterStore; COUNTERS]>,
+    pub stores: Stores,
 }
 
 // A cycle more, unless it was refused.

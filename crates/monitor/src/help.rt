@@ -10,8 +10,8 @@ m ADDR [END]     bytes of the bus; ms ADDR [END] of the storage
 > ADDR BYTE..    put bytes on the bus; >s ADDR BYTE.. in the storage
 w ADDR BYTE..    write registers, one after another: w DF02 00 10; rd ADDR reads one
 ff00             the processor writes to FF00: an armed command starts
-z [N]            N cycles (1): each one's BA, grant, access, tops passed and changes
-g [LIMIT]        cycles until the command ends, at most LIMIT (40000), and tops passed",
+z [N]            N cycles (1): BA, grant, access, tops passed, stores and changes of each
+g [LIMIT]        cycles until the command ends, at most LIMIT (40000), tops passed, stores",
     )?;
     tell(
         rt,

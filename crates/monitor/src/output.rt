@@ -1,4 +1,5 @@
 // Lines to standard output.
+use console::step::{Stores, store_line};
 use lines::beside::{Between, beside, mark};
 use lines::memory::{Memory, address_of, bytes_line, end_of};
 use pane::rows::{ROWS, row};
@@ -12,6 +13,14 @@ pub(crate) fn tell(rt: &impl Print, text: &[u8]) -> io::Result<()> {
 
 pub(crate) fn say(rt: &impl Print, line: &Line) -> io::Result<()> {
     tell(rt, line.as_bytes())
+}
+
+// The registers that were stored, one line each, in their order.
+pub(crate) fn say_stores(rt: &impl Print, stores: Stores) -> io::Result<()> {
+    for one in stores.iter().flatten() {
+        say(rt, &store_line(*one))?;
+    }
+    Ok(())
 }
 
 // Where rows are shown, and whether in colour.

@@ -1,9 +1,9 @@
-// A turn: a line is read, what the turn says is shown, and so are the rows of the pane that it changed.
+// A turn: a line is read, what the turn says and what it stores is shown, and so are the rows of the pane that it changed.
 use crate::files;
 use crate::help::help;
 use crate::input::read_line;
 use crate::machine::Machine;
-use crate::output::{Screen, say, show_bytes, show_pane, tell};
+use crate::output::{Screen, say, say_stores, show_bytes, show_pane, tell};
 use console::session::{Session, Turned};
 use lines::beside::{BEFORE, Between};
 use lines::commands::{command, is_change};
@@ -133,10 +133,12 @@ pub(crate) fn turn<S: Read, P: Files + Print>(
         session,
         said,
         obeyed,
+        stores,
     } = machine.turn(session, line.as_bytes());
     if let Some(said) = said {
         say(rt, &said)?;
     }
+    say_stores(rt, stores)?;
     let screen = Screen {
         rt,
         colour: terminal.colour,
