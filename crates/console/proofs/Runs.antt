@@ -1,7 +1,7 @@
 -- A cycle, a cycle more, and a run of them: what the calls answered and left put together.
-use Rattle.std.proofs.Common.{◌≡◌, Bool, ℕ, zero, suc, ◌+◌, ◌-◌, ◌/◌, ◌%◌, ◌<◌, ◌≤◌, true, false, cond, List, length, Option, Some, None, Result, Ok, Err, sym, refl, ap, ◌∙◌, arith, ne_eqb}
+use Rattle.std.proofs.Common.{◌≡◌, Bool, ℕ, zero, suc, ◌+◌, ◌-◌, ◌/◌, ◌%◌, ◌<◌, ◌≤◌, true, false, cond, List, length, Option, Some, None, Result, Ok, Err, sym, refl, ap, ◌∙◌, arith, eqb, eqb-true, ne_eqb}
 use mathlib.Core.Bool.{false≢true}
-use mathlib.Core.Logic.{◌⊎◌, inl, inr}
+use borrow.Author.Tests.{eqb-false}
 use Rattle.std.specs.Prelude.{is_some, unwrap_or}
 use Rattle.transfer.specs.Constants.{bus_size}
 use Rattle.transfer.specs.Bytes.{bit_of}
@@ -23,7 +23,7 @@ use Rattle.pane.specs.Answers.{accepted}
 use Rattle.pane.specs.Rows.{copy_of, long_at, size_in}
 use Rattle.lines.specs.declared.clock.Inputs.{Inputs}
 use Rattle.console.specs.declared.step.Cycle.{Cycle}
-use Rattle.console.specs.Step.{Running, access_ready, action_in, advanced, asked_of, cycle_of, go_of, refused_in, with_logged}
+use Rattle.console.specs.Step.{Running, access_ready, action_in, advanced, asked_before, asked_of, cycle_of, go_of, refused_in, with_logged}
 use Rattle.console.proofs.Cycles.{asking_changes_nothing, other_bus}
 
 -- a code that is not accepted is not 0
@@ -67,90 +67,85 @@ module _ (inputs : Inputs) (number : ℕ) (i s : List ℕ) {copy j t : List ℕ}
 
 -- ---- a cycle, from what was asked before it, o, and the storage t that this left
 
-module _ (inputs : Inputs) (number : ℕ) (i m s : List ℕ) (o : Option (Result Cycle Refused)) (t : List ℕ) where
-  -- on a bus of the right length the grant was asked for; on another nothing was
-  abbrev pub Before : Type 0
-  Before =
-      ((length m ≡ bus_size) × ((x : Result Cycle Refused) × (o ≡ Some x) × ((x, t) ≡ asked_of inputs number i s)))
-      ⊎ ((length m ≡ bus_size → ⊥) × (o ≡ None) × (t ≡ s))
+abbrev pub Asked : Type 0
+Asked = Option (Result Cycle Refused) × List ℕ
 
-  module _ (b : Before) {high low phi1 : ℕ}
-      (hi : high ≡ bool_byte inputs.ba_high) (lo : low ≡ bool_byte inputs.ba_low) (ph : phi1 ≡ bool_byte inputs.ba_high_phi1)
-      (k : Logged × List ℕ × List ℕ × List ℕ) (c : k ≡ logged_cycle i m t high number low phi1) where
-    abbrev cycle : List ℕ → (Logged × List ℕ × List ℕ × List ℕ)
-    cycle l = logged_cycle i m l (bit_of inputs.ba_high) number (bit_of inputs.ba_low) (bit_of inputs.ba_high_phi1)
+module _ (inputs : Inputs) (number : ℕ) (i m s : List ℕ) (o : Option (Result Cycle Refused)) (t : List ℕ)
+    (a : ◌≡◌ {A = Asked} (o, t) (asked_before inputs number i m s)) {high low phi1 : ℕ}
+    (hi : high ≡ bool_byte inputs.ba_high) (lo : low ≡ bool_byte inputs.ba_low) (ph : phi1 ≡ bool_byte inputs.ba_high_phi1)
+    (k : Logged × List ℕ × List ℕ × List ℕ) (c : k ≡ logged_cycle i m t high number low phi1) where
+  abbrev cycle : List ℕ → (Logged × List ℕ × List ℕ × List ℕ)
+  cycle l = logged_cycle i m l (bit_of inputs.ba_high) number (bit_of inputs.ba_low) (bit_of inputs.ba_high_phi1)
 
-    bits : k ≡ cycle t
-    bits = c ∙ (λ j. logged_cycle i m t (as_bit _ hi j) number (as_bit _ lo j) (as_bit _ ph j))
+  bits : k ≡ cycle t
+  bits = c ∙ (λ j. logged_cycle i m t (as_bit _ hi j) number (as_bit _ lo j) (as_bit _ ph j))
 
-    -- as if nothing had been asked
-    unasked_or : Before → k ≡ cycle s
-    unfolding asked_of
-    unasked_or (inl p) =
-        bits ∙ ap (λ (y : Result Cycle Refused × List ℕ). cycle y.1) p.1.2
-        ∙ asking_changes_nothing m p.0 s (bit_of inputs.ba_high) number (bit_of inputs.ba_low) (bit_of inputs.ba_high_phi1) i
-    unasked_or (inr p) = bits ∙ ap cycle p.2
+  -- as if nothing had been asked; and a cycle that is accepted had a bus of the right length, so that it was asked
+  both : (b : Bool) → eqb (length m) bus_size ≡ b
+      → ◌≡◌ {A = Asked} (o, t) (cond b (Some (asked_of inputs number i s).0, (asked_of inputs number i s).1) (None, s))
+      → (k ≡ cycle s) × (accepted (cycle s).0.answer ≡ true → o ≡ Some (asked_of inputs number i s).0)
+  unfolding asked_of
+  both true e p = (
+    bits ∙ ap (λ (y : Asked). cycle y.1) p
+        ∙ asking_changes_nothing m (eqb-true _ _ e) s (bit_of inputs.ba_high) number (bit_of inputs.ba_low) (bit_of inputs.ba_high_phi1) i,
+    λ h. ap (λ (y : Asked). y.0) p,
+  )
+  both false e p = (
+    bits ∙ ap (λ (y : Asked). cycle y.1) p,
+    λ h. absurd (false≢true (sym (other_bus m (eqb-false _ _ e) i s (bit_of inputs.ba_high) number (bit_of inputs.ba_low) (bit_of inputs.ba_high_phi1)) ∙ h)),
+  )
 
-    same : k ≡ cycle s
-    same = unasked_or b
+  it : (k ≡ cycle s) × (accepted (cycle s).0.answer ≡ true → o ≡ Some (asked_of inputs number i s).0)
+  unfolding asked_before
+  it = both (eqb (length m) bus_size) refl a
 
-    is : accepted k.0.answer ≡ accepted (cycle s).0.answer
-    is = ap (λ (y : Logged × List ℕ × List ℕ × List ℕ). accepted y.0.answer) same
+  same : k ≡ cycle s
+  same = it.0
 
-    -- a cycle that is accepted had a bus of the right length, so that it was asked
-    never : (length m ≡ bus_size → ⊥) → accepted k.0.answer ≡ true → ⊥
-    never other ok =
-        let no = other_bus m other i s (bit_of inputs.ba_high) number (bit_of inputs.ba_low) (bit_of inputs.ba_high_phi1) in
-        false≢true (sym no ∙ sym is ∙ ok)
+  is : accepted k.0.answer ≡ accepted (cycle s).0.answer
+  is = ap (λ (y : Logged × List ℕ × List ℕ × List ℕ). accepted y.0.answer) same
 
-    asked_by : {x : Result Cycle Refused} → Before → accepted k.0.answer ≡ true → o ≡ Some x → x ≡ (asked_of inputs number i s).0
-    asked_by {x} (inl p) ok e =
-        ap (λ (y : Option (Result Cycle Refused)). unwrap_or y x) (sym e ∙ p.1.1)
-        ∙ ap (λ (y : Result Cycle Refused × List ℕ). y.0) p.1.2
-    asked_by (inr p) ok e = absurd (never p.0 ok)
+  asked_by : {x : Result Cycle Refused} → accepted k.0.answer ≡ true → o ≡ Some x → x ≡ (asked_of inputs number i s).0
+  asked_by {x} ok e = ap (λ (y : Option (Result Cycle Refused)). unwrap_or y x) (sym e ∙ it.1 (sym is ∙ ok))
 
-    no_none : Before → accepted k.0.answer ≡ true → o ≡ None → ⊥
-    no_none (inl p) ok e = false≢true (ap is_some (sym e ∙ p.1.1))
-    no_none (inr p) ok e = never p.0 ok
+  pub was_asked : accepted k.0.answer ≡ true → o ≡ None → ⊥
+  was_asked ok e = false≢true (ap is_some (sym e ∙ it.1 (sym is ∙ ok)))
 
-    pub was_asked : accepted k.0.answer ≡ true → o ≡ None → ⊥
-    was_asked = no_none b
+  abbrev Done : Type 0
+  Done = Result Cycle Refused × List ℕ × List ℕ × List ℕ
 
-    abbrev Done : Type 0
-    Done = Result Cycle Refused × List ℕ × List ℕ × List ℕ
+  pub not_run : {r : Refused} → (accepted k.0.answer ≡ false) × (r.number ≡ k.0.answer / refusal_unit)
+      → ◌≡◌ {A = Done} (Err r, k.1, k.2, k.3) (cycle_of inputs number i m s)
+  unfolding cycle_of
+  not_run e =
+      let no : accepted (cycle s).0.answer ≡ false = sym is ∙ e.0 in
+      rw no
+      ((λ j. (Err record { number = e.1 j }, k.1, k.2, k.3))
+      ∙ (λ j. (Err (refused_in (same j).0.answer), (same j).1, (same j).2, (same j).3)))
 
-    pub not_run : {r : Refused} → (accepted k.0.answer ≡ false) × (r.number ≡ k.0.answer / refusal_unit)
-        → ◌≡◌ {A = Done} (Err r, k.1, k.2, k.3) (cycle_of inputs number i m s)
+  module _ {x : Result Cycle Refused} (e : o ≡ Some x) where
+    shown : accepted k.0.answer ≡ true → ◌≡◌ {A = Done} (with_logged x k.0, k.1, k.2, k.3) (cycle_of inputs number i m s)
     unfolding cycle_of
-    not_run e =
-        let no : accepted (cycle s).0.answer ≡ false = sym is ∙ e.0 in
-        rw no
-        ((λ j. (Err record { number = e.1 j }, k.1, k.2, k.3))
-        ∙ (λ j. (Err (refused_in (same j).0.answer), (same j).1, (same j).2, (same j).3)))
+    shown ok =
+        let here : accepted (cycle s).0.answer ≡ true = sym is ∙ ok in
+        rw here (λ j. (with_logged (asked_by ok e j) (same j).0, (same j).1, (same j).2, (same j).3))
 
-    module _ {x : Result Cycle Refused} (e : o ≡ Some x) where
-      shown : accepted k.0.answer ≡ true → ◌≡◌ {A = Done} (with_logged x k.0, k.1, k.2, k.3) (cycle_of inputs number i m s)
-      unfolding cycle_of
-      shown ok =
-          let here : accepted (cycle s).0.answer ≡ true = sym is ∙ ok in
-          rw here (λ j. (with_logged (asked_by b ok e j) (same j).0, (same j).1, (same j).2, (same j).3))
+    pub ran : {n : ℕ} {y : Cycle} {p : Passed} {l : Handed} → (accepted k.0.answer ≡ true) × (n ≡ k.0.answer) → x ≡ Ok y → p ≡ passed_in n → l ≡ k.0.stores
+        → ◌≡◌ {A = Done} (Ok record { grant = y.grant; access = y.access; offset = y.offset; passed = p; stores = l }, k.1, k.2, k.3)
+        (cycle_of inputs number i m s)
+    ran {y = y} ok f q z =
+        let marks = q ∙ ap passed_in ok.1 in
+        let as_asked : ◌≡◌ {A = Done} (with_logged x k.0, k.1, k.2, k.3) (with_logged (Ok y) k.0, k.1, k.2, k.3) =
+        λ j. (with_logged (f j) k.0, k.1, k.2, k.3) in
+        (λ j. (Ok record { grant = y.grant; access = y.access; offset = y.offset; passed = marks j; stores = z j }, k.1, k.2, k.3))
+        ∙ sym as_asked ∙ shown ok.0
 
-      pub ran : {n : ℕ} {y : Cycle} {p : Passed} {l : Handed} → (accepted k.0.answer ≡ true) × (n ≡ k.0.answer) → x ≡ Ok y → p ≡ passed_in n → l ≡ k.0.stores
-          → ◌≡◌ {A = Done} (Ok record { grant = y.grant; access = y.access; offset = y.offset; passed = p; stores = l }, k.1, k.2, k.3)
-          (cycle_of inputs number i m s)
-      ran {y = y} ok f q z =
-          let marks = q ∙ ap passed_in ok.1 in
-          let as_asked : ◌≡◌ {A = Done} (with_logged x k.0, k.1, k.2, k.3) (with_logged (Ok y) k.0, k.1, k.2, k.3) =
-          λ j. (with_logged (f j) k.0, k.1, k.2, k.3) in
-          (λ j. (Ok record { grant = y.grant; access = y.access; offset = y.offset; passed = marks j; stores = z j }, k.1, k.2, k.3))
-          ∙ sym as_asked ∙ shown ok.0
-
-      pub ran_unasked : {r : Refused} → accepted k.0.answer ≡ true → x ≡ Err r
-          → ◌≡◌ {A = Done} (Err r, k.1, k.2, k.3) (cycle_of inputs number i m s)
-      ran_unasked {r} ok f =
-          let as_asked : ◌≡◌ {A = Done} (with_logged x k.0, k.1, k.2, k.3) (with_logged (Err r) k.0, k.1, k.2, k.3) =
-          λ j. (with_logged (f j) k.0, k.1, k.2, k.3) in
-          sym as_asked ∙ shown ok
+    pub ran_unasked : {r : Refused} → accepted k.0.answer ≡ true → x ≡ Err r
+        → ◌≡◌ {A = Done} (Err r, k.1, k.2, k.3) (cycle_of inputs number i m s)
+    ran_unasked {r} ok f =
+        let as_asked : ◌≡◌ {A = Done} (with_logged x k.0, k.1, k.2, k.3) (with_logged (Err r) k.0, k.1, k.2, k.3) =
+        λ j. (with_logged (f j) k.0, k.1, k.2, k.3) in
+        sym as_asked ∙ shown ok
 
 -- ---- a run: a cycle, and one less to go
 

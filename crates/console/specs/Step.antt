@@ -1,6 +1,7 @@
 -- Bus cycles: one by one, or until the command ends. i is the image, m the bus, s the storage.
-use Rattle.std.specs.Prelude.{ℕ, zero, suc, ◌+◌, ◌/◌, ◌%◌, ◌^◌, Bool, cond, List, [], ◌∷◌, eqb, None, Result, Ok, Err}
+use Rattle.std.specs.Prelude.{ℕ, zero, suc, ◌+◌, ◌/◌, ◌%◌, ◌^◌, Bool, cond, List, [], ◌∷◌, eqb, length, Option, Some, None, Result, Ok, Err}
 use Rattle.transfer.specs.Bytes.{bit_of}
+use Rattle.transfer.specs.Constants.{bus_size}
 use Rattle.transfer.specs.Dma.{either, neither, passed_in}
 use Rattle.transfer.specs.declared.dma.Passed.{Passed}
 use Rattle.regs.specs.Stores.{Handed}
@@ -56,6 +57,12 @@ asked_of inputs number i s =
           (Err (refused_in g.0)),
       g.2,
     )
+
+-- on a bus of another length nothing is asked, since the cycle is refused there and writes nothing
+unfoldable pub asked_before : Inputs → ℕ → List ℕ → List ℕ → List ℕ → (Option (Result Cycle Refused) × List ℕ)
+asked_before inputs number i m s =
+    let x : (Result Cycle Refused × List ℕ) = asked_of inputs number i s in
+    cond (eqb (length m) bus_size) (Some x.0, x.1) (None, s)
 
 -- a cycle that was asked for, with the marks in its answer, "plus 2 and plus 4", and with what it stored
 abbrev pub with_logged : Result Cycle Refused → Logged → Result Cycle Refused

@@ -1,11 +1,11 @@
 // Bus cycles: one by one, or until the command ends. An offset is cast where it indexes: `usize` has no `From` of `u32`, and nothing is lost.
 // Image, bus and storage one by one: see lib.rt.
-ghost use Rattle.std.specs.Prelude.{◌≡◌, ℕ, List, Result};
+ghost use Rattle.std.specs.Prelude.{◌≡◌, ℕ, List, Option, Result};
 ghost use Rattle.text.specs.Shown.{◌⊕◌, text_of};
 ghost use Rattle.lines.specs.Clock.{time_of};
 ghost use Rattle.pane.specs.declared.answers.Refused.{Refused};
 ghost use Rattle.console.specs.declared.step.Cycle.{Cycle};
-ghost use Rattle.console.specs.Step.{access_ready, access_text, action_in, advanced, asked_of, ba_text, bytes_at, bytes_by, counted, cycle_line, cycle_of, done_text, go_of, grant_text, mark_if, passed_text, run_line, run_text, started, store_line, stores_in, time_after};
+ghost use Rattle.console.specs.Step.{access_ready, access_text, action_in, advanced, asked_before, asked_of, ba_text, bytes_at, bytes_by, counted, cycle_line, cycle_of, done_text, go_of, grant_text, mark_if, passed_text, run_line, run_text, started, store_line, stores_in, time_after};
 
 use lines::clock::{Clock, Inputs};
 use pane::answers::{Refused, answer};
@@ -66,8 +66,24 @@ fn ask(inputs: Inputs, number: u64, image: &[u8], storage: &mut [u8]) -> Result<
     })
 }
 
-// One bus cycle, with the stores that the library hands out. One that is lent a bus of another length is refused and writes nothing, so
-// nothing is asked before it.
+// The same, unless the cycle is lent a bus of another length: it is then refused and writes nothing, so nothing is asked before it.
+#[tactic(auto, unfolding(crate::specs::Step::asked_before))]
+fn ask_before(
+    inputs: Inputs,
+    number: u64,
+    image: &[u8],
+    bus: &[u8],
+    storage: &mut [u8],
+) -> Option<Result<Cycle, Refused>>
+    ensures { ◌≡◌ {A = Option (Result Cycle Refused) × List ℕ} (result, storage.new) (asked_before inputs number image.now bus.now storage.old) }
+{
+    if bus.len() != BUS_SIZE {
+        return None;
+    }
+    Some(ask(inputs, number, image, storage))
+}
+
+// One bus cycle, with the stores that the library hands out.
 pub fn run_cycle(
     inputs: Inputs,
     number: u64,
@@ -77,11 +93,7 @@ pub fn run_cycle(
 ) -> Result<Cycle, Refused>
     ensures { (result, image.new, bus.new, storage.new) ≡ cycle_of inputs number image.old bus.old storage.old }
 {
-    let asked = if bus.len() == BUS_SIZE {
-        Some(ask(inputs, number, image, storage))
-    } else {
-        None
-    };
+    let asked = ask_before(inputs, number, image, bus, storage);
     let high = u32::from(inputs.ba_high);
     let phi1 = u32::from(inputs.ba_high_phi1);
     let low = u32::from(inputs.ba_low);
