@@ -24,7 +24,7 @@ use Rattle.transfer.specs.declared.memory.Put.TheVariants.{Nothing}
 use Rattle.transfer.proofs.Pick.{by_test, fst, snd}
 use Rattle.regs.specs.declared.stores.RegisterStore.{RegisterStore}
 use Rattle.regs.specs.Registers.{held}
-use Rattle.regs.specs.Stores.{Handed, listed, made}
+use Rattle.regs.specs.Stores.{Stores, listed, made}
 use Rattle.transfer.specs.Constants.{expansion_limit, verify_error}
 use Rattle.transfer.specs.Bytes.{ones}
 use Rattle.regs.specs.FinishDma.{stores_at_end}
@@ -148,7 +148,7 @@ module _ (u : Reu) (d : DmaState) (b : Seen) (cycle : ℕ) (low : Bool) where
 -- ---- what is handed out
 
 -- by whether the step ends a command with Autoload
-conclude : (u : Reu) (x : Handed) (w : Reu) (b : Bool) → ends_autoload u w ≡ b → x ≡ cond b (Some (shadow_stores u)) None
+conclude : (u : Reu) (x : Stores) (w : Reu) (b : Bool) → ends_autoload u w ≡ b → x ≡ cond b (Some (shadow_stores u)) None
     → (b ≡ true → (i : ℕ) → 2 ≤ i → held (made (listed x) u.regs) i ≡ held w.regs i) → HandedOut u x w
 conclude u x w b e l g =
     record { which = l ∙ ap (λ (k : Bool). cond k (Some (shadow_stores u)) None) (sym e); gives = λ h i low high. g (sym e ∙ h) i low }
@@ -250,7 +250,7 @@ tick_clean u m s cycle low = by_command u.dma refl
 -- ---- the cycle over it
 
 -- what holds of a step on v, which the grant has left of u, holds of it on u
-from_grant : (u v : Reu) (x : Handed) (w : Reu) → face v ≡ face u → HandedOut v x w → HandedOut u x w
+from_grant : (u v : Reu) (x : Stores) (w : Reu) → face v ≡ face u → HandedOut v x w → HandedOut u x w
 from_grant u v x w e h =
     record {
       which = h.which ∙ (λ j. cond ((e j).5 && not (active w.dma)) (Some (shadow_stores (with_shadows u (e j).1 (e j).2 (e j).3))) None);

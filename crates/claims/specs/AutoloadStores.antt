@@ -10,7 +10,7 @@ use Rattle.transfer.specs.Timing.{action_number, swap_reads}
 use Rattle.transfer.specs.Dma.{active, is_type, moved, runs, seen_by}
 use Rattle.regs.specs.declared.stores.RegisterStore.{RegisterStore}
 use Rattle.regs.specs.Registers.{held}
-use Rattle.regs.specs.Stores.{Handed, listed, made, store}
+use Rattle.regs.specs.Stores.{Stores, listed, made, store}
 use Rattle.controller.specs.declared.reu.Reu.{Reu}
 use Rattle.controller.specs.FinishDma.{autoload_stores, finish_dma, publish_live_counters, with_stores}
 use Rattle.controller.specs.TickDma.{Ticked, differs, tick_of, with_error}
@@ -43,7 +43,7 @@ ends_autoload u w = autoloading u.dma && not (active w.dma)
 
 -- "The core step hands out these stores ..; any other step hands out none. Made on the registers before, they give registers 2 to 8
 -- after": of a step that hands out x and leaves w
-pub record HandedOut (u : Reu) (x : Handed) (w : Reu) : Type 0 where
+pub record HandedOut (u : Reu) (x : Stores) (w : Reu) : Type 0 where
   pub which : x ≡ cond (ends_autoload u w) (Some (shadow_stores u)) None
   pub gives : ends_autoload u w ≡ true → (i : ℕ) → 2 ≤ i → i ≤ 8 → held (made (listed x) u.regs) i ≡ held w.regs i
 

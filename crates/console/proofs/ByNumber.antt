@@ -12,7 +12,7 @@ use Rattle.transfer.specs.declared.timing.ReuBusAction.{ReuBusAction}
 use Rattle.transfer.specs.declared.timing.ReuBusAction.TheVariants.{Cpu, Hold, Transfer}
 use Rattle.transfer.specs.declared.timing.ReuC64Access.{ReuC64Access}
 use Rattle.transfer.specs.declared.timing.ReuC64Access.TheVariants.{Read, Write}
-use Rattle.regs.specs.Stores.{Handed}
+use Rattle.regs.specs.Stores.{Stores}
 use Rattle.reu.specs.Exports.{refusal, refusal_unit, reu_c64_access}
 use Rattle.pane.specs.Answers.{accepted, refused_as, refused_by}
 use Rattle.text.specs.Bytes.{byte_at}
@@ -110,7 +110,7 @@ bytes_are t (Write a) offset m s h =
 
 -- ---- what is counted, and the time
 
-abbrev pub counted_said : Run → ℕ → Passed → Handed → Run
+abbrev pub counted_said : Run → ℕ → Passed → Stores → Run
 counted_said r grant passed l =
     let p : Passed = either r.passed passed in
     cond (eqb grant 2)
@@ -118,7 +118,7 @@ counted_said r grant passed l =
     (cond (accepted grant)
     record { clock = next_clock r.clock; granted = r.granted; held = (r.held + 1) % 2 ^ 64; passed = p; stores = l } r)
 
-counted_by_grant : (r : Run) (a : ReuBusAction) (access : ReuC64Access) (offset : ℕ) (p : Passed) (l : Handed)
+counted_by_grant : (r : Run) (a : ReuBusAction) (access : ReuC64Access) (offset : ℕ) (p : Passed) (l : Stores)
     → counted_said r (action_number a) p l ≡ counted r (Ok record { grant = a; access = access; offset = offset; passed = p; stores = l })
 unfolding counted
 counted_by_grant r Cpu access offset p l = refl
@@ -128,7 +128,7 @@ counted_by_grant r Transfer access offset p l = refl
 pub counted_is : (r : Run) (x : Cycle) → counted_said r (action_number x.grant) x.passed x.stores ≡ counted r (Ok x)
 counted_is r x = counted_by_grant r x.grant x.access x.offset x.passed x.stores
 
-pub refused_counted_is : (r : Run) (n : ℕ) → 1 ≤ n → (p : Passed) (l : Handed)
+pub refused_counted_is : (r : Run) (n : ℕ) → 1 ≤ n → (p : Passed) (l : Stores)
     → counted_said r (refusal n) p l ≡ counted r (Err (refused_in (refusal n)))
 unfolding counted
 refused_counted_is r n h p l = rw (ne_eqb (refusal n) 2 (λ z. omega (arith, z)), refused_large n h) refl

@@ -11,7 +11,7 @@ use Rattle.transfer.specs.declared.timing.ReuBusAction.{ReuBusAction}
 use Rattle.transfer.specs.declared.timing.ReuC64Access.{ReuC64Access}
 use mir.Val.{bool_byte}
 use Rattle.image.proofs.Flags.{byte_is_bit}
-use Rattle.regs.specs.Stores.{Handed}
+use Rattle.regs.specs.Stores.{Stores}
 use Rattle.image.specs.Layout.{place_of, transfer_exp}
 use Rattle.image.specs.Open.{open_image}
 use Rattle.controller.specs.Refusals.{checked}
@@ -130,7 +130,7 @@ module _ (inputs : Inputs) (number : ℕ) (i m s : List ℕ) (o : Option (Result
         let here : accepted (cycle s).0.answer ≡ true = sym is ∙ ok in
         rw here (λ j. (with_logged (asked_by ok e j) (same j).0, (same j).1, (same j).2, (same j).3))
 
-    pub ran : {n : ℕ} {y : Cycle} {p : Passed} {l : Handed} → (accepted k.0.answer ≡ true) × (n ≡ k.0.answer) → x ≡ Ok y → p ≡ passed_in n → l ≡ k.0.stores
+    pub ran : {n : ℕ} {y : Cycle} {p : Passed} {l : Stores} → (accepted k.0.answer ≡ true) × (n ≡ k.0.answer) → x ≡ Ok y → p ≡ passed_in n → l ≡ k.0.stores
         → ◌≡◌ {A = Done} (Ok record { grant = y.grant; access = y.access; offset = y.offset; passed = p; stores = l }, k.1, k.2, k.3)
         (cycle_of inputs number i m s)
     ran {y = y} ok f q z =

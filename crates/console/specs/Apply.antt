@@ -2,7 +2,7 @@
 -- t is the line that was typed, c the time.
 use Rattle.std.specs.Prelude.{ℕ, ◌/◌, cond, List, [], eqb, Option, Some, None, Result, unwrap_or}
 use Rattle.transfer.specs.Memory.{zeros}
-use Rattle.regs.specs.Stores.{Handed}
+use Rattle.regs.specs.Stores.{Stores}
 use Rattle.reu.specs.Exports.{refusal_unit, reu_dma_active, reu_new, reu_reset, reu_set_enabled, reu_set_size, reu_trigger_ff00}
 use Rattle.pane.specs.Answers.{accepted, refused_by}
 use Rattle.text.specs.Shown.{◌⊕◌, ascii, decimal_of, text_of}
@@ -56,7 +56,7 @@ step_outcome c i m s =
     (time_after (time_of c) x.0, Some (cycle_line c x.0 x.2 x.3), x.1, x.2, x.3)
 
 -- what that cycle stores
-unfoldable pub step_stores : Clock → List ℕ → List ℕ → List ℕ → Handed
+unfoldable pub step_stores : Clock → List ℕ → List ℕ → List ℕ → Stores
 step_stores c i m s = stores_in (cycle_of (inputs_shown (letter_of c)) c.cycle i m s).0
 
 -- `g`: cycles until the command ends; a swap of 65,536 bytes takes half the limit
@@ -67,7 +67,7 @@ go_outcome t c i m s =
     (time_of x.0.clock, Some (run_line x.0 x.1), x.1, x.2, x.3)
 
 -- what the last of these cycles stores; nothing, where no command runs
-unfoldable pub go_stores : List ℕ → Clock → List ℕ → List ℕ → List ℕ → Handed
+unfoldable pub go_stores : List ℕ → Clock → List ℕ → List ℕ → List ℕ → Stores
 go_stores t c i m s =
     cond (eqb (reu_dma_active i) 0) None (go_of (count_or t 0x40000) (started c, i, m, s)).0.stores
 
@@ -95,6 +95,6 @@ apply_of (Some G) t c i m s = go_outcome t c i m s
 apply_of other t c i m s = let x : (Time × Option (List ℕ) × List ℕ) = control_of other t c i in (x.0, x.1, x.2, m, s)
 
 -- of these `g` alone makes cycles; L5: "any other step hands out none"
-unfoldable pub apply_stores : Option Command → List ℕ → Clock → List ℕ → List ℕ → List ℕ → Handed
+unfoldable pub apply_stores : Option Command → List ℕ → Clock → List ℕ → List ℕ → List ℕ → Stores
 apply_stores (Some G) t c i m s = go_stores t c i m s
 apply_stores other t c i m s = None

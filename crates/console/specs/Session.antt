@@ -1,7 +1,7 @@
 -- A session: what is held from one turn to the next, and what a turn does. z is the session, i the image, m the bus, s the
 -- storage, t the line that was typed.
 use Rattle.std.specs.Prelude.{ℕ, ◌-◌, Bool, true, cond, List, length, eqb, ltb, Option, Some, None}
-use Rattle.regs.specs.Stores.{Handed}
+use Rattle.regs.specs.Stores.{Stores}
 use Rattle.text.specs.Typed.{word_of}
 use Rattle.console.specs.declared.session.Session.{Session}
 use Rattle.console.specs.Said.{some_text}
@@ -88,7 +88,7 @@ turn_of t z i m s =
     (cond (is_dropped t (fault_in i t)) (dropped_turn t z i m s) (obey_turn t z i m s))
 
 -- what a turn stores: a cycle's stores or the command's, and none where the line is forgotten
-unfoldable pub turn_stores : List ℕ → Session → List ℕ → List ℕ → List ℕ → Handed
+unfoldable pub turn_stores : List ℕ → Session → List ℕ → List ℕ → List ℕ → Stores
 turn_stores t z i m s =
     cond (ltb 0 z.left) (step_stores z.clock i m s)
     (cond (is_dropped t (fault_in i t)) None (apply_stores (command_of (word_of 0 t)) t z.clock i m s))

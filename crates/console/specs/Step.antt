@@ -4,7 +4,7 @@ use Rattle.transfer.specs.Bytes.{bit_of}
 use Rattle.transfer.specs.Constants.{bus_size}
 use Rattle.transfer.specs.Dma.{either, neither, passed_in}
 use Rattle.transfer.specs.declared.dma.Passed.{Passed}
-use Rattle.regs.specs.Stores.{Handed}
+use Rattle.regs.specs.Stores.{Stores}
 use Rattle.regs.specs.declared.stores.RegisterStore.{RegisterStore}
 use Rattle.image.specs.Layout.{place_of, transfer_exp}
 use Rattle.reu.specs.Exports.{refusal_unit, reu_bus_action, reu_c64_access, reu_dma_active}
@@ -78,7 +78,7 @@ cycle_of inputs number i m s =
     (cond (accepted k.0.answer) (with_logged (asked_of inputs number i s).0 k.0) (Err (refused_in k.0.answer)), k.1, k.2, k.3)
 
 -- what a cycle stored; one that was refused stored nothing
-abbrev pub stores_in : Result Cycle Refused → Handed
+abbrev pub stores_in : Result Cycle Refused → Stores
 stores_in (Ok x) = x.stores
 stores_in (Err refused) = None
 
@@ -151,7 +151,7 @@ abbrev pub started : Clock → Run
 started c = record { clock = c; granted = 0; held = 0; passed = neither; stores = None }
 
 -- a cycle more by its grant; 64 bits
-abbrev pub counted_by : ReuBusAction → Run → Passed → Handed → Run
+abbrev pub counted_by : ReuBusAction → Run → Passed → Stores → Run
 counted_by Transfer r p l =
     record { clock = next_clock r.clock; granted = (r.granted + 1) % 2 ^ 64; held = r.held; passed = p; stores = l }
 counted_by other r p l =

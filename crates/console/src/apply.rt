@@ -13,13 +13,14 @@ ghost use Rattle.lines.specs.Memory.{stored};
 ghost use Rattle.console.specs.Registers.{warning_of, written};
 
 use crate::registers;
-use crate::step::{Stores, after, cycle_line, go, run_cycle, run_line, stores_in};
+use crate::step::{after, cycle_line, go, run_cycle, run_line, stores_in};
 use controller::Refusal;
 use lines::clock::{Clock, Inputs};
 use lines::commands::{command, size_typed};
 use lines::keys::Command;
 use lines::memory::{address_of, store};
 use pane::answers::answer;
+use regs::Stores;
 use text::faults::value;
 use text::line::Line;
 use text::words::{word, word_count};

@@ -11,11 +11,11 @@ ghost use Rattle.console.specs.Said.{obeyed_of, said_of};
 ghost use Rattle.console.specs.Session.{cycle_turn, ended_after, ended_session, fault_in, held_of, obey_turn, steps_of, turn_of, turn_stores};
 
 use crate::apply::{apply, count_or, step};
-use crate::step::Stores;
 use lines::clock::Clock;
 use lines::commands::{command, is_comment, line_fault};
 use lines::keys::Command;
 use pane::rows::size_in;
+use regs::Stores;
 use text::line::Line;
 
 #[derive(Drop)]

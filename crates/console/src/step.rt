@@ -10,15 +10,12 @@ ghost use Rattle.console.specs.Step.{access_ready, access_text, action_in, advan
 use lines::clock::{Clock, Inputs};
 use pane::answers::{Refused, answer};
 use pane::rows::{copied, size_in, transfer_expansion};
-use regs::{COUNTERS, RegisterStore};
+use regs::{RegisterStore, Stores};
 use text::bytes::byte;
 use text::line::Line;
 use transfer::{C64Address, Passed, ReuBusAction, ReuC64Access};
 
 const BUS_SIZE: usize = 65536;
-
-// The registers that a cycle stored, in their order, where it ended a command with Autoload.
-pub type Stores = Option<[RegisterStore; COUNTERS]>;
 
 // What a cycle was granted, the access to the bus that the controller had ready, the offset in the storage, which address ran over its
 // top, and what it stored.

@@ -1,7 +1,7 @@
 -- What a public call answers, by number: 0 where it is accepted, else a refusal's.
 use Rattle.controller.specs.Prelude.{ℕ, Bool, false, None, Result, Ok, Err, Passed, Reu, Refusal, Length, Field, Size, Attached, Answered, Step}
 use Rattle.transfer.specs.Dma.{neither}
-use Rattle.regs.specs.Stores.{Handed}
+use Rattle.regs.specs.Stores.{Stores}
 
 -- ---- "Each returns 16,777,216 times the refusal number plus a value": the number, the value, and the controller after the call
 
@@ -16,7 +16,7 @@ pub record StepAnswer : Type 0 where
   pub refusal : ℕ
   pub flag : Bool
   pub passed : Passed
-  pub stores : Handed
+  pub stores : Stores
   pub reu : Reu
 
 -- of the step over a controller that is lent the same, without the controller
@@ -24,7 +24,7 @@ pub record Stepped : Type 0 where
   pub refusal : ℕ
   pub flag : Bool
   pub passed : Passed
-  pub stores : Handed
+  pub stores : Stores
 
 -- "1: image length ..; 2: a field outside the ranges ..; 3: bus ..; 4: storage". L4: "Refusal 5 is another size, 6 setting one when attached"
 abbrev pub refusal_number : Refusal → ℕ

@@ -4,7 +4,7 @@ use Rattle.controller.specs.Prelude.{Bool, [], DmaState, None, Reu}
 use Rattle.transfer.specs.Constants.{interrupt}
 use Rattle.transfer.specs.Bytes.{ones}
 use Rattle.regs.specs.FinishDma.{irq_due, marked, counters, finished, stores_at_end}
-use Rattle.regs.specs.Stores.{Handed, listed, made}
+use Rattle.regs.specs.Stores.{Stores, listed, made}
 use Rattle.controller.specs.Reu.{with_regs, with_irq, with_dma}
 
 -- evaluating only ever raises
@@ -20,9 +20,9 @@ unfoldable pub finish_dma : Reu → Bool → Reu
 finish_dma u ended = update_irq (with_dma (with_regs u (finished u.regs ended)) None)
 
 -- "with Autoload the seven .. registers come from the shadows": what is stored at the end of a command
-abbrev pub autoload_stores : Reu → Bool → Handed
+abbrev pub autoload_stores : Reu → Bool → Stores
 autoload_stores u autoload = stores_at_end autoload u.shadow_c64_addr u.shadow_reu_addr u.shadow_len
 
 -- a controller whose registers are stored
-abbrev pub with_stores : Reu → Handed → Reu
+abbrev pub with_stores : Reu → Stores → Reu
 with_stores u x = with_regs u (made (listed x) u.regs)

@@ -10,11 +10,11 @@ use Rattle.controller.specs.Reu.{with_regs, with_dma, with_release, with_refresh
 use Rattle.transfer.specs.Dma.{with_odd, with_latch, with_tail, recalled, latched}
 use Rattle.transfer.specs.Memory.{put_bus, put_storage}
 use Rattle.transfer.specs.Dma.{is_type, moved, neither, passed, seen_by}
-use Rattle.regs.specs.Stores.{Handed}
+use Rattle.regs.specs.Stores.{Stores}
 use Rattle.controller.specs.FinishDma.{autoload_stores, publish_live_counters, finish_dma, with_stores}
 
 -- what a tick answers and reports, the stores that it hands out, the controller before these are made, and what it writes
-abbrev pub reports : Bool → Passed → Handed → Reu → Put → TickAnswer
+abbrev pub reports : Bool → Passed → Stores → Reu → Put → TickAnswer
 reports flag p x u put = record { flag = flag; passed = p; stores = x; reu = u; put = put }
 
 -- L2: "a verify tail, a swap's first phase .. report neither", nor does any other tick that completes no byte
@@ -112,7 +112,7 @@ tick_of (Some d) u b cycle low =
 abbrev pub Ticked : Type 0
 Ticked = StepAnswer × List ℕ × List ℕ
 
-abbrev pub ticked : Bool → Passed → Handed → Reu → StepAnswer
+abbrev pub ticked : Bool → Passed → Stores → Reu → StepAnswer
 ticked flag p x u = record { refusal = 0; flag = flag; passed = p; stores = x; reu = u }
 
 -- a step that reports neither and stores nothing: a refusal by its number, or one that ticks nothing

@@ -1,8 +1,9 @@
 // Lines to standard output.
-use console::step::{Stores, store_line};
+use console::step::store_line;
 use lines::beside::{Between, beside, mark};
 use lines::memory::{Memory, address_of, bytes_line, end_of};
 use pane::rows::{ROWS, row};
+use regs::Stores;
 use std::io;
 use text::line::Line;
 

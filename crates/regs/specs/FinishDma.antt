@@ -4,7 +4,7 @@ use Rattle.regs.specs.Prelude.{ℕ, Bool, cond, List, [], None, Some, bit_or, se
 use Rattle.transfer.specs.Constants.{status, command, interrupt_mask, verify_error, end_of_block, without_ff00, execute, enable_all}
 use Rattle.transfer.specs.Bytes.{bit, ones, set_bits, clear_bits}
 use Rattle.regs.specs.Registers.{held}
-use Rattle.regs.specs.Stores.{Handed, counter_stores, made}
+use Rattle.regs.specs.Stores.{Stores, counter_stores, made}
 
 -- an event is enabled, and so are all: "Mask bits 5, 6, 7 enable verify, end of block, all"
 abbrev pub irq_due : List ℕ → Bool
@@ -33,5 +33,5 @@ finished l ended = finished_command (finished_status l ended)
 
 -- "with Autoload the seven .. registers come from the shadows", here c, e and n. L5: "stores each of registers 2 to 8 once, in that order,
 -- with its shadow's byte"; "any other step hands out none"
-abbrev pub stores_at_end : Bool → ℕ → ℕ → ℕ → Handed
+abbrev pub stores_at_end : Bool → ℕ → ℕ → ℕ → Stores
 stores_at_end autoload c e n = cond autoload (Some (counter_stores c e n)) None

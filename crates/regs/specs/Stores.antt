@@ -19,9 +19,9 @@ counter_stores c e n =
     ∷ store exp_bank (bank_byte e) ∷ store length_low (low_byte n) ∷ store length_high (high_byte n) ∷ []
 
 -- what a step hands out: "these stores"; "any other step hands out none"
-abbrev pub Handed : Type 0
-Handed = Option (List RegisterStore)
+abbrev pub Stores : Type 0
+Stores = Option (List RegisterStore)
 
-abbrev pub listed : Handed → List RegisterStore
+abbrev pub listed : Stores → List RegisterStore
 listed None = []
 listed (Some l) = l

@@ -6,7 +6,7 @@ use Rattle.image.specs.Open.{store_image}
 use Rattle.image.proofs.Opening.{store_good, store_other}
 use Rattle.image.proofs.SoundCalls.{sound_new}
 use Rattle.std.specs.Prelude.{None, Result, Ok, Err, get_or}
-use Rattle.regs.specs.Stores.{Handed}
+use Rattle.regs.specs.Stores.{Stores}
 use Rattle.controller.specs.declared.refusals.Refusal.{Refusal}
 use Rattle.controller.specs.declared.reu.Answered.{Answered}
 use Rattle.controller.specs.declared.reu.Step.{Step}
@@ -95,7 +95,7 @@ module _ (i : List ℕ) where
         ∙ ap (λ (y : Opened). changed_storage (f y.reu s) i) h)
 
     -- n is the answer with its value as a number, l its stores
-    pub both_done : (m s b t : List ℕ) (f : Reu → List ℕ → List ℕ → Ticked) (r : Result (Answered Step) Refusal) (n : Result (Answered ℕ) Refusal) (l : Handed) (x : ℕ) (j : List ℕ)
+    pub both_done : (m s b t : List ℕ) (f : Reu → List ℕ → List ℕ → Ticked) (r : Result (Answered Step) Refusal) (n : Result (Answered ℕ) Refusal) (l : Stores) (x : ℕ) (j : List ℕ)
         → (step_answer_of u r, b, t) ≡ f u m s → answer_of u n ≡ numbered (step_answer_of u r) → l ≡ (step_answer_of u r).stores → (x, j) ≡ ended n i
         → (record { answer = x; stores = l }, j, b, t) ≡ logged_both f i m s
     unfolding change_both stores_by
