@@ -139,17 +139,29 @@ fn at_ends(planted: &mut Planted, step: Step, storage: &mut [u8]) {
     }
 }
 
+fn short() -> [Block; 4] {
+    [STORE, RECALL, SWAP, VERIFY].map(|kind| Block::of(kind, 3))
+}
+
 fn elsewhere(planted: &mut Planted, step: Step, storage: &mut [u8]) {
-    for block in [STORE, RECALL, SWAP, VERIFY].map(|kind| Block::of(kind, 3)) {
+    for block in short() {
         let mut of = |run| Right::of(run, storage);
-        let (right, held) = (of(Run::whole(&block, step)), of(Run::held(&block)));
+        let right = of(Run::whole(&block, step));
         let plain = of(Run::whole(&Block { autoload: false, ..block.clone() }, step));
         let armed = of(Run::whole(&Block { by_ff00: true, ..block.clone() }, step));
         let dropped = of(Run::dropped(&block, step, 2));
-        planted.no_end(&held);
-        for other in [&right, &held, &plain, &armed, &dropped] {
+        for other in [&right, &plain, &armed, &dropped] {
             planted.elsewhere(other, &right.end().1);
         }
+    }
+}
+
+/// A Hold comes in a cycle alone.
+fn where_held(planted: &mut Planted, storage: &mut [u8]) {
+    for block in short() {
+        let held = Right::of(Run::held(&block), storage);
+        planted.no_end(&held);
+        planted.elsewhere(&held, &held.end().1);
     }
 }
 
@@ -160,5 +172,6 @@ pub fn all(storage: &mut [u8]) -> Planted {
         other_shadows(&mut planted, step, storage);
         elsewhere(&mut planted, step, storage);
     }
+    where_held(&mut planted, storage);
     planted
 }

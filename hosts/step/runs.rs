@@ -177,7 +177,9 @@ fn runs_of(block: &Block, step: Step) -> Vec<Run> {
     let mut all = vec![Run::whole(block, step)];
     all.extend((0..ticks).map(|before| Run::with(block, step, &rewritten(), before)));
     all.push(Run::dropped(block, step, 0));
-    all.push(Run::dropped(block, step, ticks - 1));
+    if ticks > 1 {
+        all.push(Run::dropped(block, step, ticks - 1));
+    }
     all
 }
 

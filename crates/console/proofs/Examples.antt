@@ -89,7 +89,7 @@ over_once : (counted (counted (started fifth) (granted 5)) (granted 1)).passed �
 unfolding fifth granted counted
 over_once = refl
 
--- ---- the stores: a line of each, by its address; a run has those of its last cycle, and one before it has none
+-- ---- the stores: a line of each, by its address; a run has those of its last cycle, and none of a cycle before that
 
 bank_stored : store_line (store 6 0xF8) ≡ ascii "DF06 stored F8"
 unfolding hex_of ◌⊕◌

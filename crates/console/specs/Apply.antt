@@ -50,26 +50,32 @@ size_text answer =
     (Some (cond (eqb (answer / refusal_unit) 6) (t ⊕ ascii ": storage is attached (new makes a machine without)") t))
 
 -- `z`: one cycle
+abbrev pub cycle_made : Clock → List ℕ → List ℕ → List ℕ → (Result Done Refused × List ℕ × List ℕ × List ℕ)
+cycle_made c i m s = cycle_of (inputs_shown (letter_of c)) c.cycle i m s
+
 unfoldable pub step_outcome : Clock → List ℕ → List ℕ → List ℕ → Outcome
 step_outcome c i m s =
-    let x : (Result Done Refused × List ℕ × List ℕ × List ℕ) = cycle_of (inputs_shown (letter_of c)) c.cycle i m s in
+    let x : (Result Done Refused × List ℕ × List ℕ × List ℕ) = cycle_made c i m s in
     (time_after (time_of c) x.0, Some (cycle_line c x.0 x.2 x.3), x.1, x.2, x.3)
 
 -- what that cycle stores
 unfoldable pub step_stores : Clock → List ℕ → List ℕ → List ℕ → Stores
-step_stores c i m s = stores_in (cycle_of (inputs_shown (letter_of c)) c.cycle i m s).0
+step_stores c i m s = stores_in (cycle_made c i m s).0
 
 -- `g`: cycles until the command ends; a swap of 65,536 bytes takes half the limit
+abbrev pub run_made : List ℕ → Clock → List ℕ → List ℕ → List ℕ → Running
+run_made t c i m s = go_of (count_or t 0x40000) (started c, i, m, s)
+
 unfoldable pub go_outcome : List ℕ → Clock → List ℕ → List ℕ → List ℕ → Outcome
 go_outcome t c i m s =
-    let x : Running = go_of (count_or t 0x40000) (started c, i, m, s) in
+    let x : Running = run_made t c i m s in
     cond (eqb (reu_dma_active i) 0) (time_of c, Some ([] ⊕ ascii "no command runs (an armed one waits for ff00)"), i, m, s)
     (time_of x.0.clock, Some (run_line x.0 x.1), x.1, x.2, x.3)
 
 -- what the last of these cycles stores; nothing, where no command runs
 unfoldable pub go_stores : List ℕ → Clock → List ℕ → List ℕ → List ℕ → Stores
 go_stores t c i m s =
-    cond (eqb (reu_dma_active i) 0) None (go_of (count_or t 0x40000) (started c, i, m, s)).0.stores
+    cond (eqb (reu_dma_active i) 0) None (run_made t c i m s).0.stores
 
 -- ---- the commands
 
@@ -94,7 +100,7 @@ apply_of (Some New) t c i m s = ((0, [], 0), None, (reu_new i).1, zeros m, zeros
 apply_of (Some G) t c i m s = go_outcome t c i m s
 apply_of other t c i m s = let x : (Time × Option (List ℕ) × List ℕ) = control_of other t c i in (x.0, x.1, x.2, m, s)
 
--- of these `g` alone makes cycles; L5: "any other step hands out none"
+-- of these `g` alone makes cycles, so no other has stores
 unfoldable pub apply_stores : Option Command → List ℕ → Clock → List ℕ → List ℕ → List ℕ → Stores
 apply_stores (Some G) t c i m s = go_stores t c i m s
 apply_stores other t c i m s = None

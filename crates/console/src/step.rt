@@ -240,7 +240,7 @@ pub fn after(clock: Clock, done: Result<Cycle, Refused>) -> Clock
 // ---- until the command ends
 
 // How far a run came, which address ran over its top in any of its cycles, and what the last of them stored. The run ends with the
-// command, so no cycle before the last has stored anything.
+// command, so no cycle before the last has stored anything (claims::autoload_stores: a step that stores has ended the command).
 #[derive(Drop)]
 pub struct Run {
     pub clock: Clock,

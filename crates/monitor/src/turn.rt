@@ -1,4 +1,4 @@
-// A turn: a line is read, what the turn says and what it stores is shown, and so are the rows of the pane that it changed.
+// A turn: a line is read; what the turn says, the registers that it stored and the rows of the pane that it changed are shown.
 use crate::files;
 use crate::help::help;
 use crate::input::read_line;

@@ -4,7 +4,7 @@
 // around it. Two addresses and a length are three parameters: the two callers have them as fields of records that differ, and would make a struct
 // only to have it taken apart here.
 ghost use Rattle.std.specs.Prelude.{◌≡◌};
-ghost use Rattle.regs.specs.FinishDma.{stores_at_end, counters, finished, irq_due, marked};
+ghost use Rattle.regs.specs.FinishDma.{counters, finished, irq_due, marked, stores_at_end};
 
 use crate::constants::{
     COMMAND, COMMAND_COMPLETION_MASK, COMMAND_FF00_DISABLE, INTERRUPT_END_OF_BLOCK_ENABLE,

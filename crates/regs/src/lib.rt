@@ -1,8 +1,8 @@
 // The eleven registers of the MOS 8726 expansion controller, as bytes: which one an address selects, what a byte of each holds, what a start
 // takes from them, and what a transfer and its end leave in them. Values alone, as in `transfer`.
 //
-// constants and registers are the original's files; start_dma and finish_dma have what these two of its functions do with registers,
-// stores the list by which live counters and shadows are stored.
+// constants and registers are the original's files; start_dma and finish_dma have what these two of its functions do with registers.
+// The module `stores` has the list by which live counters and shadows are stored, and how stores are made.
 #![tactic(auto)]
 
 mod constants;

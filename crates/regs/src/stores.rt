@@ -20,6 +20,7 @@ pub struct RegisterStore {
 // What a step hands out: the stores in their order, or none.
 pub type Stores = Option<[RegisterStore; COUNTERS]>;
 
+// A register's number is a place in an array everywhere else; here it is a byte, since a step's answer carries seven of them. None is above 255.
 fn store(index: usize, value: u8) -> RegisterStore
     requires { index < 256 }
     ensures { result ≡ store index value }
