@@ -4,7 +4,7 @@ use mathlib.Core.Bool.{Bool, true, false, not, ◌&&◌, ◌||◌, cond, false�
 use mathlib.Core.Path.{◌≡◌, refl, sym, ap, ◌∙◌, subst}
 use mathlib.Core.List.{List, [], ◌∷◌}
 use native.Mathlib.Omega.{arith}
-use lib.Dec.{eqb, leb, ltb}
+use lib.Dec.{eqb}
 use borrow.Author.Tests.{eqb-false, eqb-true}
 use lib.ListN.{length, get_or, set, length-set}
 use Rattle.transfer.specs.declared.dma.DmaState.{DmaState}
@@ -25,14 +25,15 @@ use Rattle.transfer.proofs.Pick.{by_test, fst, snd}
 use Rattle.regs.specs.declared.stores.RegisterStore.{RegisterStore}
 use Rattle.regs.specs.Registers.{held}
 use Rattle.regs.specs.Stores.{Stores, listed, made}
-use Rattle.transfer.specs.Constants.{expansion_limit, verify_error}
+use Rattle.transfer.specs.Constants.{verify_error}
 use Rattle.transfer.specs.Bytes.{ones}
 use Rattle.regs.specs.FinishDma.{stores_at_end}
 use Rattle.controller.specs.declared.reu.Reu.{Reu}
 use Rattle.controller.specs.declared.reu.TickAnswer.{TickAnswer}
 use Rattle.controller.specs.Reu.{with_dma, with_release, with_repeat, with_shadows}
-use Rattle.controller.specs.Refusals.{checked, refusal_of, well_formed}
+use Rattle.controller.specs.Refusals.{checked, refusal_of}
 use Rattle.controller.proofs.Checked.{accepted}
+use Rattle.controller.proofs.WellFormed.{well_command}
 use Rattle.controller.specs.BusAction.{bus_action}
 use Rattle.controller.specs.Calls.{call_both, cycle_call, tick_call}
 use Rattle.controller.specs.Cycle.{counted, cycle_by, run_reu_cycle}
@@ -297,18 +298,13 @@ attached_of : (a : Bool) (x : Option DmaState) → well_dma a x ≡ true → act
 attached_of a None h e = absurd (false≢true e)
 attached_of a (Some d) h e = fst a _ h
 
-held_of : (u : Reu) → well_formed u ≡ true → Held u
-unfolding well_formed
-held_of u h =
-    attached_of u.attached u.dma
-    (fst (well_dma u.attached u.dma) _ (snd (ltb u.shadow_reu_addr expansion_limit) _ (snd (leb u.swap_read_delay 2) _ h)))
-
 module _ (u : Reu) (m s : List ℕ) (x : Ticked) where
   abbrev n : ℕ
   n = refusal_of u (length m) (length s)
 
   done_held : eqb n 0 ≡ true → Held u
-  done_held e = held_of u (accepted u n (length m) (length s) refl (eqb-true n 0 e)).well
+  done_held e a =
+      attached_of u.attached u.dma (well_command u (accepted u n (length m) (length s) refl (eqb-true n 0 e)).well) a
 
   -- a refused step hands out none
   tested : (Held u → HandedOut u x.0.stores x.0.reu) → HandedOut u (call_both u m s x).0.stores (call_both u m s x).0.reu

@@ -25,11 +25,13 @@ well_dma_lem : (attached : Bool) (x : Option DmaState) → well_dma attached x �
 well_dma_lem a None e = tt
 well_dma_lem a (Some d) e = well_transfer_lem d (snd a _ e)
 
-pub well_range : (u : Reu) → well_formed u ≡ true → InRangeDma u.dma
+pub well_command : (u : Reu) → well_formed u ≡ true → well_dma u.attached u.dma ≡ true
 unfolding well_formed
-well_range u e =
-    well_dma_lem u.attached u.dma
-    (fst (well_dma u.attached u.dma) _ (snd (ltb u.shadow_reu_addr expansion_limit) _ (snd (leb u.swap_read_delay 2) _ e)))
+well_command u e =
+    fst (well_dma u.attached u.dma) _ (snd (ltb u.shadow_reu_addr expansion_limit) _ (snd (leb u.swap_read_delay 2) _ e))
+
+pub well_range : (u : Reu) → well_formed u ≡ true → InRangeDma u.dma
+well_range u e = well_dma_lem u.attached u.dma (well_command u e)
 
 pub well_size_lem : (u : Reu) → well_formed u ≡ true → well_size u.size (reg u status) ≡ true
 unfolding well_formed
