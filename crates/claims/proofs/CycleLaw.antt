@@ -28,24 +28,25 @@ use Rattle.transfer.specs.Dma.{moved, neither}
 use Rattle.regs.specs.FinishDma.{irq_due, counters, finished_status, finished, stores_at_end}
 use Rattle.regs.specs.Stores.{listed, made}
 use Rattle.controller.specs.FinishDma.{publish_live_counters, finish_dma, update_irq}
-use Rattle.controller.specs.BusAction.{bus_action, next_action, granted, decide, fall, plain, repeated}
-use Rattle.controller.specs.TickDma.{Ticked, ticked, tick_dma, tick_of, tick_running, tick_by_type, tick_swap, swap_read, swap_write, shown_last, advance}
+use Rattle.controller.specs.BusAction.{bus_action, next_action, granted, decide, fall, fall_on_read, fall_on_swap_write, plain, repeated}
+use Rattle.controller.specs.TickDma.{Ticked, ticked, tick_dma, tick_of, tick_running, tick_by_type, tick_swap, swap_read, swap_write, tick_refresh, shown_last, advance}
 use Rattle.transfer.proofs.Pick.{by_test}
 use Rattle.controller.specs.Cycle.{run_reu_cycle, counted, cycle_by}
 use Rattle.claims.proofs.EndLaw.{finish_agrees, marked_length, marked_other}
 
 -- whoever unfolds this unfolds all that a cycle of a swap computes
-cycle_computed : Unit {0}
-unfolding run_reu_cycle counted cycle_by bus_action next_action decide fall plain action_for_cycle c64_access repeated tick_dma tick_of tick_running tick_by_type tick_swap swap_read swap_write advance publish_live_counters
+unfoldable pub cycle_computed : Unit {0}
+unfolding run_reu_cycle counted cycle_by bus_action next_action decide fall fall_on_read fall_on_swap_write plain action_for_cycle c64_access repeated tick_dma tick_of tick_running tick_by_type tick_swap swap_read swap_write tick_refresh advance publish_live_counters
 cycle_computed = tt
 
 -- u with the fields that choose what a cycle does replaced
-abbrev ready : Reu → Bool → Bool → ℕ → Bool → Bool → Option DmaState → Reu
-ready u terminal refresh delay attached high d =
+abbrev ready : Reu → Bool → Bool → ℕ → Bool → Bool → Bool → Option DmaState → Reu
+ready u terminal refresh delay attached was late d =
     record u {
       attached = attached;
-      ba_was_high = high;
+      ba_was_high = was;
       terminal_swap_write = terminal;
+      late_ba_fall = late;
       swap_refresh = refresh;
       swap_read_delay = delay;
       dma = d;
@@ -69,39 +70,35 @@ swap_state phase c e r l auto one odd =
       verify_tail = false;
     }
 
--- a swap stands before its read phase, at bus place c and expansion address e, with r bytes left
+-- how a swap stands between two cycles: its phase, whether it is in the terminal pair, whether it refreshes, its delay; bus place, expansion
+-- address, bytes left and latch
+pub record Stands (u : Reu) (p : SwapPhase) (t f : Bool) (d c e r l : ℕ) : Type 0 where
+  pub terminal : u.terminal_swap_write ≡ t
+  pub refresh : u.swap_refresh ≡ f
+  pub delay : u.swap_read_delay ≡ d
+  pub attached : u.attached ≡ true
+  pub auto : Bool
+  pub one : Bool
+  pub odd : Bool
+  pub transfer : u.dma ≡ Some (swap_state p c e r l auto one odd)
+
+abbrev pub form : (u : Reu) (p : SwapPhase) (t f : Bool) (d c e r l : ℕ) (auto one odd was late : Bool) → Reu
+form u p t f d c e r l auto one odd was late = ready u t f d true was late (Some (swap_state p c e r l auto one odd))
+
+pub stands_is : {u : Reu} {p : SwapPhase} {t f : Bool} {d c e r l : ℕ} (h : Stands u p t f d c e r l) (w : Bool) → u.ba_was_high ≡ w
+    → u ≡ form u p t f d c e r l h.auto h.one h.odd w u.late_ba_fall
+stands_is {u} h w q =
+    λ i. ready u (h.terminal i) (h.refresh i) (h.delay i) (h.attached i) (q i) u.late_ba_fall (h.transfer i)
+
+-- before its read phase, at bus place c and expansion address e, with r bytes left
 pub record Reading (u : Reu) (c e r : ℕ) : Type 0 where
-  pub terminal : u.terminal_swap_write ≡ false
-  pub refresh : u.swap_refresh ≡ false
-  pub delay : u.swap_read_delay ≡ 0
-  pub attached : u.attached ≡ true
   pub latch : ℕ
-  pub auto : Bool
-  pub one : Bool
-  pub odd : Bool
-  pub transfer : u.dma ≡ Some (swap_state ReadC64 c e r latch auto one odd)
+  pub stands : Stands u ReadC64 false false 0 c e r latch
 
--- a swap stands before its write phase, with the byte l in its latch
+-- before its write phase behind a cycle with BA high, with the byte l in its latch
 pub record Writing (u : Reu) (c e r l : ℕ) : Type 0 where
-  pub terminal : u.terminal_swap_write ≡ false
-  pub refresh : u.swap_refresh ≡ false
-  pub delay : u.swap_read_delay ≡ 0
-  pub attached : u.attached ≡ true
   pub high : u.ba_was_high ≡ true
-  pub auto : Bool
-  pub one : Bool
-  pub odd : Bool
-  pub transfer : u.dma ≡ Some (swap_state WriteC64 c e r l auto one odd)
-
-reading_is : (u : Reu) (c e r : ℕ) (h : Reading u c e r)
-    → u ≡ ready u false false 0 true u.ba_was_high (Some (swap_state ReadC64 c e r h.latch h.auto h.one h.odd))
-reading_is u c e r h =
-    λ i. ready u (h.terminal i) (h.refresh i) (h.delay i) (h.attached i) u.ba_was_high (h.transfer i)
-
-writing_is : (u : Reu) (c e r l : ℕ) (h : Writing u c e r l)
-    → u ≡ ready u false false 0 true true (Some (swap_state WriteC64 c e r l h.auto h.one h.odd))
-writing_is u c e r l h =
-    λ i. ready u (h.terminal i) (h.refresh i) (h.delay i) (h.attached i) (h.high i) (h.transfer i)
+  pub stands : Stands u WriteC64 false false 0 c e r l
 
 -- ---- the read phase: the storage takes the bus's byte, the latch the storage's
 
@@ -112,34 +109,34 @@ pub record ReadStep (u : Reu) (c e r : ℕ) (m s : List ℕ) (t : Ticked) (a : R
   pub regs : t.0.reu.regs ≡ u.regs
   pub phase : Writing t.0.reu c e r (get_or s (e % 2 ^ lines u.size) 0)
 
-read_ready : (u : Reu) (w : Bool) (c e r l : ℕ) (auto one odd : Bool) (m s : List ℕ) (n : ℕ) (low : Bool)
+read_ready : (u : Reu) (w late : Bool) (c e r l : ℕ) (auto one odd : Bool) (m s : List ℕ) (high : Bool) (n : ℕ) (low : Bool)
     → ReadStep u c e r m s
-    (run_reu_cycle (ready u false false 0 true w (Some (swap_state ReadC64 c e r l auto one odd))) m s true true n low)
-    (bus_action (ready u false false 0 true w (Some (swap_state ReadC64 c e r l auto one odd))) s true true n).0.action
+    (run_reu_cycle (form u ReadC64 false false 0 c e r l auto one odd w late) m s high true n low)
+    (bus_action (form u ReadC64 false false 0 c e r l auto one odd w late) s high true n).0.action
 unfolding cycle_computed
-read_ready u true c e r l auto one odd m s n low =
+read_ready u true late c e r l auto one odd m s high n low =
     record {
       granted = refl;
       bus = refl;
       storage = refl;
       regs = refl;
-      phase = record { terminal = refl; refresh = refl; delay = refl; attached = refl; high = refl; auto = auto; one = one; odd = bit n 0; transfer = refl };
+      phase = record { high = refl; stands = record { terminal = refl; refresh = refl; delay = refl; attached = refl; auto = auto; one = one; odd = bit n 0; transfer = refl } };
     }
-read_ready u false c e r l auto one odd m s n low =
+read_ready u false late c e r l auto one odd m s high n low =
     record {
       granted = refl;
       bus = refl;
       storage = refl;
       regs = refl;
-      phase = record { terminal = refl; refresh = refl; delay = refl; attached = refl; high = refl; auto = auto; one = one; odd = bit n 0; transfer = refl };
+      phase = record { high = refl; stands = record { terminal = refl; refresh = refl; delay = refl; attached = refl; auto = auto; one = one; odd = bit n 0; transfer = refl } };
     }
 
-pub read_step : (u : Reu) (c e r : ℕ) → Reading u c e r → (m s : List ℕ) (n : ℕ) (low : Bool)
-    → ReadStep u c e r m s (run_reu_cycle u m s true true n low) (bus_action u s true true n).0.action
-read_step u c e r h m s n low =
-    subst (λ (v : Reu). ReadStep u c e r m s (run_reu_cycle v m s true true n low) (bus_action v s true true n).0.action)
-    (sym (reading_is u c e r h))
-    (read_ready u u.ba_was_high c e r h.latch h.auto h.one h.odd m s n low)
+pub read_step : (u : Reu) (c e r : ℕ) → Reading u c e r → (m s : List ℕ) (high : Bool) (n : ℕ) (low : Bool)
+    → ReadStep u c e r m s (run_reu_cycle u m s high true n low) (bus_action u s high true n).0.action
+read_step u c e r h m s high n low =
+    subst (λ (v : Reu). ReadStep u c e r m s (run_reu_cycle v m s high true n low) (bus_action v s high true n).0.action)
+    (sym (stands_is h.stands u.ba_was_high refl))
+    (read_ready u u.ba_was_high u.late_ba_fall c e r h.latch h.stands.auto h.stands.one h.stands.odd m s high n low)
 
 -- ---- the write phase of a byte that is not the last
 
@@ -149,6 +146,7 @@ pub record WriteStep (u : Reu) (c e r l : ℕ) (m s : List ℕ) (t : Ticked) (a 
   pub storage : t.2 ≡ s
   pub command : reg t.0.reu 1 ≡ reg u 1
   pub control : reg t.0.reu 10 ≡ reg u 10
+  pub history : t.0.reu.ba_was_high ≡ true
   pub phase : Reading t.0.reu ((c + 1) % 65536) ((e + 1) % 16777216) (r - 1)
 
 -- the counters leave the other registers
@@ -160,27 +158,28 @@ pub other_counters : (l : List ℕ) (c e n i : ℕ) → (i < 2) ⊎ (8 < i) → 
 other_counters l c e n i (inl h) = apart l c e n i (omega arith) (omega arith) (omega arith) (omega arith) (omega arith) (omega arith) (omega arith)
 other_counters l c e n i (inr h) = apart l c e n i (omega arith) (omega arith) (omega arith) (omega arith) (omega arith) (omega arith) (omega arith)
 
-write_ready : (u : Reu) (c e r l : ℕ) (auto one odd : Bool) (m s : List ℕ) (n : ℕ) (low : Bool) → eqb r 1 ≡ false
+write_ready : (u : Reu) (late : Bool) (c e r l : ℕ) (auto one odd : Bool) (m s : List ℕ) (high : Bool) (n : ℕ) (low : Bool) → eqb r 1 ≡ false
     → WriteStep u c e r l m s
-    (run_reu_cycle (ready u false false 0 true true (Some (swap_state WriteC64 c e r l auto one odd))) m s true true n low)
-    (bus_action (ready u false false 0 true true (Some (swap_state WriteC64 c e r l auto one odd))) s true true n).0.action
+    (run_reu_cycle (form u WriteC64 false false 0 c e r l auto one odd true late) m s high true n low)
+    (bus_action (form u WriteC64 false false 0 c e r l auto one odd true late) s high true n).0.action
 unfolding cycle_computed
-write_ready u c e r l auto one odd m s n low h =
+write_ready u late c e r l auto one odd m s high n low h =
     rw h (record {
       granted = refl;
       bus = refl;
       storage = refl;
       command = other_counters u.regs ((c + 1) % 65536) ((e + 1) % 16777216) (r - 1) 1 (inl (omega arith));
       control = other_counters u.regs ((c + 1) % 65536) ((e + 1) % 16777216) (r - 1) 10 (inr (omega arith));
-      phase = record { terminal = refl; refresh = refl; delay = refl; attached = refl; latch = l; auto = auto; one = false; odd = odd; transfer = refl };
+      history = refl;
+      phase = record { latch = l; stands = record { terminal = refl; refresh = refl; delay = refl; attached = refl; auto = auto; one = false; odd = odd; transfer = refl } };
     })
 
-pub write_step : (u : Reu) (c e r l : ℕ) → Writing u c e r l → eqb r 1 ≡ false → (m s : List ℕ) (n : ℕ) (low : Bool)
-    → WriteStep u c e r l m s (run_reu_cycle u m s true true n low) (bus_action u s true true n).0.action
-write_step u c e r l h ne m s n low =
-    subst (λ (v : Reu). WriteStep u c e r l m s (run_reu_cycle v m s true true n low) (bus_action v s true true n).0.action)
-    (sym (writing_is u c e r l h))
-    (write_ready u c e r l h.auto h.one h.odd m s n low ne)
+pub write_step : (u : Reu) (c e r l : ℕ) → Writing u c e r l → eqb r 1 ≡ false → (m s : List ℕ) (high : Bool) (n : ℕ) (low : Bool)
+    → WriteStep u c e r l m s (run_reu_cycle u m s high true n low) (bus_action u s high true n).0.action
+write_step u c e r l h ne m s high n low =
+    subst (λ (v : Reu). WriteStep u c e r l m s (run_reu_cycle v m s high true n low) (bus_action v s high true n).0.action)
+    (sym (stands_is h.stands true h.high))
+    (write_ready u u.late_ba_fall c e r l h.stands.auto h.stands.one h.stands.odd m s high n low ne)
 
 -- ---- the write phase of the last byte: the command ends
 
@@ -232,12 +231,11 @@ found u d =
     (λ _. record { long = refl; other = λ i h. refl; terminal = refl; delay = refl; attached = refl })
     (λ _. record { long = simp length-set; other = λ i h. other_counters u.regs d.c64_addr.0 d.reu_addr.0 d.remaining i h; terminal = refl; delay = refl; attached = refl })
 
-last_ready : (u : Reu) (c e l : ℕ) (auto one odd : Bool) (m s : List ℕ) (n : ℕ) (low : Bool) → length u.regs ≡ 11
-    → LastStep u c l m s
-    (run_reu_cycle (ready u false false 0 true true (Some (swap_state WriteC64 c e 1 l auto one odd))) m s true true n low)
-    (bus_action (ready u false false 0 true true (Some (swap_state WriteC64 c e 1 l auto one odd))) s true true n).0.action
+-- the tick, whatever BA is and was
+pub last_tick : (u : Reu) (c e l : ℕ) (auto one odd was late : Bool) (m s : List ℕ) (n : ℕ) (low : Bool) → length u.regs ≡ 11
+    → LastStep u c l m s (cycle_by Transfer (form u WriteC64 false false 0 c e 1 l auto one odd was late) m s n low) Transfer
 unfolding cycle_computed
-last_ready u c e l auto one odd m s n low len =
+last_tick u c e l auto one odd was late m s n low len =
     record {
       granted = refl;
       bus = refl;
@@ -252,7 +250,7 @@ last_ready u c e l auto one odd m s n low len =
     }
   where
     v : Reu
-    v = with_history (ready u false false 0 true true (Some (swap_state WriteC64 c e 1 l auto one odd))) true false
+    v = form u WriteC64 false false 0 c e 1 l auto one odd was late
 
     d : DmaState
     d = moved (swap_state WriteC64 c e 1 l auto one odd)
@@ -266,12 +264,18 @@ last_ready u c e l auto one odd m s n low len =
     q : Quiet (finish_dma w true)
     q = finish_quiet w true f.terminal f.delay f.attached
 
-pub last_step : (u : Reu) (c e l : ℕ) → Writing u c e 1 l → length u.regs ≡ 11 → (m s : List ℕ) (n : ℕ) (low : Bool)
-    → LastStep u c l m s (run_reu_cycle u m s true true n low) (bus_action u s true true n).0.action
-last_step u c e l h len m s n low =
-    subst (λ (v : Reu). LastStep u c l m s (run_reu_cycle v m s true true n low) (bus_action v s true true n).0.action)
-    (sym (writing_is u c e 1 l h))
-    (last_ready u c e l h.auto h.one h.odd m s n low len)
+last_ready : (u : Reu) (c e l : ℕ) (auto one odd late : Bool) (m s : List ℕ) (high : Bool) (n : ℕ) (low : Bool) → length u.regs ≡ 11
+    → LastStep u c l m s (run_reu_cycle (form u WriteC64 false false 0 c e 1 l auto one odd true late) m s high true n low)
+    (bus_action (form u WriteC64 false false 0 c e 1 l auto one odd true late) s high true n).0.action
+unfolding cycle_computed
+last_ready u c e l auto one odd late m s high n low len = last_tick u c e l auto one odd true (not high) m s n low len
+
+pub last_step : (u : Reu) (c e l : ℕ) → Writing u c e 1 l → length u.regs ≡ 11 → (m s : List ℕ) (high : Bool) (n : ℕ) (low : Bool)
+    → LastStep u c l m s (run_reu_cycle u m s high true n low) (bus_action u s high true n).0.action
+last_step u c e l h len m s high n low =
+    subst (λ (v : Reu). LastStep u c l m s (run_reu_cycle v m s high true n low) (bus_action v s high true n).0.action)
+    (sym (stands_is h.stands true h.high))
+    (last_ready u c e l h.stands.auto h.stands.one h.stands.odd u.late_ba_fall m s high n low len)
 
 -- ---- no transfer
 
@@ -313,7 +317,7 @@ still u m s = record { bus = refl; storage = refl; kept = record { regs = λ i h
 
 -- the controller when an idle cycle's action is chosen
 abbrev before_choice : Reu → Bool → Bool → ℕ → Reu
-before_choice u refresh high delay = with_repeat (with_history (ready u false refresh delay u.attached high None) true false) u.recall_repeat
+before_choice u refresh high delay = with_repeat (with_history (ready u false refresh delay u.attached high u.late_ba_fall None) true false) u.recall_repeat
 
 -- by whether a delay is left, and whether it ends
 idle_choice : (u : Reu) (refresh high : Bool) (delay : ℕ) (m s : List ℕ) (n : ℕ) (low : Bool) (none last : Bool)
@@ -326,37 +330,45 @@ idle_choice u refresh high delay m s n low false false v p g q = rw (q, p) (stil
 idle_choice u refresh high delay m s n low true last v p g q = rw (q, p) (still u m s)
 
 idle_ready : (u : Reu) (terminal refresh high : Bool) (delay : ℕ) (m s : List ℕ) (n : ℕ) (low : Bool)
-    → IdleStep u m s (run_reu_cycle (ready u terminal refresh delay u.attached high None) m s true true n low)
+    → IdleStep u m s (run_reu_cycle (ready u terminal refresh delay u.attached high u.late_ba_fall None) m s true true n low)
 unfolding cycle_computed
 idle_ready u true refresh true delay m s n low = still u m s
 idle_ready u true refresh false delay m s n low = still u m s
 idle_ready u false refresh true delay m s n low =
     idle_choice u refresh true delay m s n low (eqb delay 0) (eqb delay 1) (before_choice u refresh true delay) refl
-    (next_action (ready u false refresh delay u.attached true None) true true n) refl
+    (next_action (ready u false refresh delay u.attached true u.late_ba_fall None) true true n) refl
 idle_ready u false refresh false delay m s n low =
     idle_choice u refresh false delay m s n low (eqb delay 0) (eqb delay 1) (before_choice u refresh false delay) refl
-    (next_action (ready u false refresh delay u.attached false None) true true n) refl
+    (next_action (ready u false refresh delay u.attached false u.late_ba_fall None) true true n) refl
 
 pub idle_step : (u : Reu) → u.dma ≡ None → (m s : List ℕ) (n : ℕ) (low : Bool) → IdleStep u m s (run_reu_cycle u m s true true n low)
 idle_step u h m s n low =
     subst (λ (v : Reu). IdleStep u m s (run_reu_cycle v m s true true n low))
-    (λ i. ready u u.terminal_swap_write u.swap_refresh u.swap_read_delay u.attached u.ba_was_high (sym h i))
+    (λ i. ready u u.terminal_swap_write u.swap_refresh u.swap_read_delay u.attached u.ba_was_high u.late_ba_fall (sym h i))
     (idle_ready u u.terminal_swap_write u.swap_refresh u.ba_was_high u.swap_read_delay m s n low)
 
--- after a swap an idle cycle is not granted, and leaves it so
-pub record QuietStep (t : Ticked) (a : ReuBusAction) : Type 0 where
+-- after a swap an idle cycle is not granted whatever BA is, changes nothing, and leaves it so
+pub record QuietStep (u : Reu) (m s : List ℕ) (t : Ticked) (a : ReuBusAction) : Type 0 where
   pub granted : a ≡ Cpu
+  pub step : IdleStep u m s t
   pub quiet : Quiet t.0.reu
 
-quiet_ready : (u : Reu) (refresh high : Bool) (m s : List ℕ) (n : ℕ) (low : Bool)
-    → QuietStep (run_reu_cycle (ready u false refresh 0 true high None) m s true true n low) (bus_action (ready u false refresh 0 true high None) s true true n).0.action
+quiet_ready : (u : Reu) (refresh was late : Bool) (m s : List ℕ) (high phi1 : Bool) (n : ℕ) (low : Bool)
+    → QuietStep (ready u false refresh 0 true was late None) m s (run_reu_cycle (ready u false refresh 0 true was late None) m s high phi1 n low)
+    (bus_action (ready u false refresh 0 true was late None) s high phi1 n).0.action
 unfolding cycle_computed
-quiet_ready u refresh true m s n low = record { granted = refl; quiet = record { terminal = refl; delay = refl; attached = refl; idle = refl } }
-quiet_ready u refresh false m s n low = record { granted = refl; quiet = record { terminal = refl; delay = refl; attached = refl; idle = refl } }
+quiet_ready u refresh true late m s high true n low =
+    record { granted = refl; step = still (ready u false refresh 0 true true late None) m s; quiet = record { terminal = refl; delay = refl; attached = refl; idle = refl } }
+quiet_ready u refresh true late m s high false n low =
+    record { granted = refl; step = still (ready u false refresh 0 true true late None) m s; quiet = record { terminal = refl; delay = refl; attached = refl; idle = refl } }
+quiet_ready u refresh false late m s high true n low =
+    record { granted = refl; step = still (ready u false refresh 0 true false late None) m s; quiet = record { terminal = refl; delay = refl; attached = refl; idle = refl } }
+quiet_ready u refresh false late m s high false n low =
+    record { granted = refl; step = still (ready u false refresh 0 true false late None) m s; quiet = record { terminal = refl; delay = refl; attached = refl; idle = refl } }
 
-pub quiet_step_lem : (u : Reu) → Quiet u → (m s : List ℕ) (n : ℕ) (low : Bool)
-    → QuietStep (run_reu_cycle u m s true true n low) (bus_action u s true true n).0.action
-quiet_step_lem u q m s n low =
-    subst (λ (v : Reu). QuietStep (run_reu_cycle v m s true true n low) (bus_action v s true true n).0.action)
-    (λ i. ready u (sym q.terminal i) u.swap_refresh (sym q.delay i) (sym q.attached i) u.ba_was_high (sym q.idle i))
-    (quiet_ready u u.swap_refresh u.ba_was_high m s n low)
+pub quiet_step_lem : (u : Reu) → Quiet u → (m s : List ℕ) (high phi1 : Bool) (n : ℕ) (low : Bool)
+    → QuietStep u m s (run_reu_cycle u m s high phi1 n low) (bus_action u s high phi1 n).0.action
+quiet_step_lem u q m s high phi1 n low =
+    subst (λ (v : Reu). QuietStep v m s (run_reu_cycle v m s high phi1 n low) (bus_action v s high phi1 n).0.action)
+    (λ i. ready u (sym q.terminal i) u.swap_refresh (sym q.delay i) (sym q.attached i) u.ba_was_high u.late_ba_fall (sym q.idle i))
+    (quiet_ready u u.swap_refresh u.ba_was_high u.late_ba_fall m s high phi1 n low)

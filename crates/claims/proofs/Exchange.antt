@@ -1,13 +1,17 @@
 -- Exchanging bytes of two lists at pairs of places, one pair after the other, and twice. The places are any functions
--- that have no value twice below the length.
-use Prim.Native.Nat.{ℕ, zero, suc, ◌<◌}
-use mathlib.Core.Path.{◌≡◌, refl, ap, ◌∙◌}
+-- that have no value twice below the length. And that this keeps how often each value occurs in both lists.
+use Prim.Native.Nat.{ℕ, zero, suc, ◌+◌, ◌<◌, ◌≤◌}
+use mathlib.Core.Bool.{cond}
+use mathlib.Core.Path.{◌≡◌, refl, sym, ap, ◌∙◌}
 use mathlib.Core.Logic.{◌≢◌, ◌⊎◌, inl, inr}
 use mathlib.Core.List.{List}
 use lib.ListN.{length, get_or, set, length-set}
 use lib.Seq.{get_or-set_same, get_or-set_other, ext_get_or}
+use lib.Dec.{eqb}
 use native.Mathlib.Omega.{arith}
 use native.Mathlib.Decide.{ℕ_discrete}
+use Rattle.std.specs.Prelude.{count_by}
+use Rattle.std.proofs.lemmas.List.Sums.{sum_by-set}
 
 -- x is one of the first n values of f, or none
 pub place : (f : ℕ → ℕ) (n x : ℕ) → ((i : ℕ) × (i < n) × (x ≡ f i)) ⊎ ((i : ℕ) → i < n → x ≢ f i)
@@ -61,17 +65,71 @@ module _ (C E : ℕ → ℕ) where
         storage_size = length-set s (E n) (get_or m₀ (C n) 0) ∙ x.storage_size;
       }
 
-  -- twice is back
-  pub exch_twice : (n : ℕ) (m₀ s₀ m s m₂ s₂ : List ℕ) → Exch n m₀ s₀ m s → Exch n m s m₂ s₂ → (m₂ ≡ m₀) × (s₂ ≡ s₀)
-  exch_twice n m₀ s₀ m s m₂ s₂ x y = (
-    ext_get_or 0 m₂ m₀ (y.bus_length ∙ x.bus_length) (λ j h. bus j (place C n j)),
-    ext_get_or 0 s₂ s₀ (y.storage_size ∙ x.storage_size) (λ j h. sto j (place E n j)),
+  -- what is exchanged is determined
+  pub exch_only : (n : ℕ) (m₀ s₀ m s m' s' : List ℕ) → Exch n m₀ s₀ m s → Exch n m₀ s₀ m' s' → (m ≡ m') × (s ≡ s')
+  exch_only n m₀ s₀ m s m' s' x y = (
+    ext_get_or 0 m m' (x.bus_length ∙ sym y.bus_length) (λ j h. bus j (place C n j)),
+    ext_get_or 0 s s' (x.storage_size ∙ sym y.storage_size) (λ j h. sto j (place E n j)),
   )
     where
-      bus : (j : ℕ) → ((i : ℕ) × (i < n) × (j ≡ C i)) ⊎ ((i : ℕ) → i < n → j ≢ C i) → get_or m₂ j 0 ≡ get_or m₀ j 0
-      bus j (inl w) = rw w.2 (y.to_bus w.0 w.1 ∙ x.to_storage w.0 w.1)
-      bus j (inr nw) = y.other_bus j nw ∙ x.other_bus j nw
+      bus : (j : ℕ) → ((i : ℕ) × (i < n) × (j ≡ C i)) ⊎ ((i : ℕ) → i < n → j ≢ C i) → get_or m j 0 ≡ get_or m' j 0
+      bus j (inl w) = rw w.2 (x.to_bus w.0 w.1 ∙ sym (y.to_bus w.0 w.1))
+      bus j (inr nw) = x.other_bus j nw ∙ sym (y.other_bus j nw)
 
-      sto : (j : ℕ) → ((i : ℕ) × (i < n) × (j ≡ E i)) ⊎ ((i : ℕ) → i < n → j ≢ E i) → get_or s₂ j 0 ≡ get_or s₀ j 0
-      sto j (inl w) = rw w.2 (y.to_storage w.0 w.1 ∙ x.to_bus w.0 w.1)
-      sto j (inr nw) = y.other_storage j nw ∙ x.other_storage j nw
+      sto : (j : ℕ) → ((i : ℕ) × (i < n) × (j ≡ E i)) ⊎ ((i : ℕ) → i < n → j ≢ E i) → get_or s j 0 ≡ get_or s' j 0
+      sto j (inl w) = rw w.2 (x.to_storage w.0 w.1 ∙ sym (y.to_storage w.0 w.1))
+      sto j (inr nw) = x.other_storage j nw ∙ sym (y.other_storage j nw)
+
+  -- it goes back, so twice is back
+  exch_back : (n : ℕ) (m₀ s₀ m s : List ℕ) → Exch n m₀ s₀ m s → Exch n m s m₀ s₀
+  exch_back n m₀ s₀ m s x =
+      record {
+        to_bus = λ i h. sym (x.to_storage i h);
+        to_storage = λ i h. sym (x.to_bus i h);
+        other_bus = λ j nw. sym (x.other_bus j nw);
+        other_storage = λ j nw. sym (x.other_storage j nw);
+        bus_length = sym x.bus_length;
+        storage_size = sym x.storage_size;
+      }
+
+  pub exch_twice : (n : ℕ) (m₀ s₀ m s m₂ s₂ : List ℕ) → Exch n m₀ s₀ m s → Exch n m s m₂ s₂ → (m₂ ≡ m₀) × (s₂ ≡ s₀)
+  exch_twice n m₀ s₀ m s m₂ s₂ x y = exch_only n m s m₂ s₂ m₀ s₀ y (exch_back n m₀ s₀ m s x)
+
+  -- ---- how often a value occurs in both lists together
+
+  abbrev pub together : ℕ → List ℕ → List ℕ → ℕ
+  together v m s = count_by (λ x. eqb x v) m + count_by (λ x. eqb x v) s
+
+  abbrev one_if : ℕ → ℕ → ℕ
+  one_if v x = cond (eqb x v) 1 0
+
+  record Same (v n : ℕ) (m₀ s₀ : List ℕ) : Type 0 where
+    m : List ℕ
+    s : List ℕ
+    exch : Exch n m₀ s₀ m s
+    same : together v m s ≡ together v m₀ s₀
+
+  module _ (v most : ℕ) (m₀ s₀ : List ℕ) (fm : (i : ℕ) → i < most → C i < length m₀) (fs : (i : ℕ) → i < most → E i < length s₀)
+      (apm : (i j : ℕ) → i < j → j < most → C i ≢ C j) (aps : (i j : ℕ) → i < j → j < most → E i ≢ E j) where
+    one_more : (n : ℕ) → n < most → Same v n m₀ s₀ → Same v (suc n) m₀ s₀
+    one_more n h x =
+        let a = sum_by-set (one_if v) x.m (C n) (get_or s₀ (E n) 0) 0 (omega (arith, fm n h, x.exch.bus_length)) in
+        let b = sum_by-set (one_if v) x.s (E n) (get_or m₀ (C n) 0) 0 (omega (arith, fs n h, x.exch.storage_size)) in
+        let p : one_if v (get_or x.m (C n) 0) ≡ one_if v (get_or m₀ (C n) 0) = ap (one_if v) (x.exch.other_bus (C n) (λ i l q. apm i n l h (sym q))) in
+        let q : one_if v (get_or x.s (E n) 0) ≡ one_if v (get_or s₀ (E n) 0) = ap (one_if v) (x.exch.other_storage (E n) (λ i l q. aps i n l h (sym q))) in
+        record {
+          m = set x.m (C n) (get_or s₀ (E n) 0);
+          s = set x.s (E n) (get_or m₀ (C n) 0);
+          exch = exch_next n m₀ s₀ x.m x.s x.exch (fm n h) (fs n h) (λ i l. apm i n l h) (λ i l. aps i n l h);
+          same = omega (arith, a, b, p, q, x.same);
+        }
+
+    made : (n : ℕ) → n ≤ most → Same v n m₀ s₀
+    made zero h = record { m = m₀; s = s₀; exch = exch_zero m₀ s₀; same = refl }
+    made (suc n) h = one_more n (omega arith) (made n (omega arith))
+
+    pub exch_count : (m s : List ℕ) → Exch most m₀ s₀ m s → together v m s ≡ together v m₀ s₀
+    exch_count m s x =
+        let y = made most (omega arith) in
+        let e = exch_only most m₀ s₀ m s y.m y.s x y.exch in
+        (λ i. together v (e.0 i) (e.1 i)) ∙ y.same

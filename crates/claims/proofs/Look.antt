@@ -1,19 +1,20 @@
 -- What the image's bytes and the answers of read and debug_register show of the controller.
-use Prim.Native.Nat.{ℕ, ◌/◌, ◌%◌, ◌<◌}
-use mathlib.Core.Bool.{Bool, true, cond}
-use mathlib.Core.Path.{◌≡◌, refl, sym, ap, ◌∙◌}
+use Prim.Native.Nat.{ℕ, ◌/◌, ◌%◌, ◌^◌, ◌<◌}
+use mathlib.Core.Bool.{Bool, true, false, cond}
+use mathlib.Core.Path.{◌≡◌, refl, sym, ap, ◌∙◌, subst}
 use mathlib.Core.Logic.{inl, inr}
 use mathlib.Core.List.{List, ◌++◌}
 use lib.ListN.{length, get_or, drop, get_or-append}
 use lib.Seq.{get_or-append-add, get_or-take}
+use lib.Dec.{eqb}
 use lib.Bits.{or_mod, or_zero_r, and_mask}
 use native.Mathlib.Omega.{arith}
-use borrow.Author.Tests.{lt-ltb}
+use borrow.Author.Tests.{eq-eqb, lt-ltb}
 use Rattle.std.specs.Prelude.{Option}
 use Rattle.std.specs.Prelude.{None, Some}
 use Rattle.transfer.specs.Bytes.{bit}
 use Rattle.controller.specs.Reu.{reg}
-use Rattle.transfer.proofs.Bits.{bit_zero, zero_bit}
+use Rattle.transfer.proofs.Bits.{bit_div, bit_zero, zero_bit}
 use Rattle.controller.specs.Registers.{read_at, read_register, debug_register as core_debug_register}
 use Rattle.controller.specs.declared.reu.Reu.{Reu}
 use Rattle.image.specs.Open.{Opened}
@@ -22,16 +23,19 @@ use Rattle.image.specs.Open.{open_image}
 use Rattle.image.specs.Layout.{fields, image_size, at, flags, granted_field, size_of, pack_image, reu_at, present, other_numbers}
 use Rattle.reu.specs.Exports.{reu_debug_register}
 use Rattle.claims.specs.Calls.{Held, debug_register, read, other}
-use Rattle.claims.specs.SwapTwice.{byte, size_set, Start, OfBlock, Shown, Ended}
+use Rattle.claims.specs.SwapTwice.{byte, size_set, CanStart, Start, OfBlock, Shown, Ended}
 use Rattle.image.proofs.Opening.{opened_is as opening-is, opened_long}
 use Rattle.image.proofs.Packed.{open_pack, pack_is, pack_long}
 use Rattle.image.proofs.ByBytes.{listed, registers_are, flags_byte_lem, more_byte, dma_none}
-use Rattle.image.proofs.Sound.{Sound}
-use Rattle.image.proofs.Valid.{open_sound, pack_back, sound_well, sound_typed}
+use Rattle.image.proofs.Sound.{Sound, SoundDma, SoundTransfer}
+use Rattle.image.proofs.Valid.{open_sound, pack_back, sound_bytes, sound_well, sound_typed}
 use Rattle.claims.proofs.States.{St, held, Ready, ready_of}
 use Rattle.claims.proofs.Accepted.{alone, answer_is}
 use Rattle.claims.specs.Constants.{flags_byte, transfer_byte}
 use Rattle.claims.specs.GrantedCycles.{number}
+use Rattle.claims.specs.RemainingBytes.{remaining_of, pair_in}
+use Rattle.claims.specs.SwapOnScreen.{left}
+use Rattle.claims.proofs.RemainingBytes.{back, packed}
 use Rattle.claims.proofs.RegisterLaw.{Value, Seven, two, three, four, five, six, seven, eight, is_seven}
 use Rattle.transfer.specs.declared.dma.DmaState.{DmaState}
 
@@ -42,6 +46,9 @@ upper_bits v h a b =
   where
     two_bits : (q : ℕ) → q < 4 → q % 2 ≡ 0 → q / 2 % 2 ≡ 0 → q ≡ 0
     two_bits q h a b = omega arith
+
+pub one_bit : (v i : ℕ) → v / 2 ^ i % 2 ≡ 1 → bit v i ≡ true
+one_bit v i h = bit_div v i ∙ eq-eqb (v / 2 ^ i % 2) 1 h
 
 module _ (x : St) (sound : Sound x.u) where
   regs_11 : length x.u.regs ≡ 11
@@ -87,6 +94,10 @@ module _ (x : St) (sound : Sound x.u) where
   pub armed_bit : bit (byte (held x) flags_byte) 3 ≡ x.u.waiting_ff00
   unfolding reu_at
   armed_bit = flag_bit 3 ∙ ap (λ (u : Reu). u.waiting_ff00) reopened
+
+  pub late_bit : bit (byte (held x) flags_byte) 7 ≡ x.u.late_ba_fall
+  unfolding reu_at
+  late_bit = flag_bit 7 ∙ ap (λ (u : Reu). u.late_ba_fall) reopened
 
   -- the size that is set
   pub size_byte : size_set (held x) ≡ x.u.size
@@ -138,6 +149,16 @@ module _ (x : St) (sound : Sound x.u) where
       let z : v ≡ reg x.u r = e ∙ debug_value r (omega arith) in
       (ap (λ (y : ℕ). y % 8) z, λ ne. z)
 
+  -- the bytes that are left of a transfer
+  pub left_none : x.u.dma ≡ None → left (held x) ≡ 0
+  left_none e = ap (λ (v : ℕ). cond (eqb v 0) 0 (remaining_of (pair_in (pack_image x.u)))) (present_byte ∙ ap present e)
+
+  pub left_some : (d : DmaState) → x.u.dma ≡ Some d → left (held x) ≡ d.remaining
+  left_some d e =
+      let fits : SoundTransfer x.u.attached d = subst (SoundDma x.u.attached) e sound.dma in
+      ap (λ (v : ℕ). cond (eqb v 0) 0 (remaining_of (pair_in (pack_image x.u)))) (present_byte ∙ ap present e)
+      ∙ ap remaining_of (packed x.u d (sound_typed x.u sound) e) ∙ (back d.remaining (fits.low, fits.high)).1
+
 -- ---- starts
 
 -- an idle controller that a command can start, no address fixed
@@ -149,7 +170,27 @@ pub record Idling (x : St) : Type 0 where
 abbrev pub opened : Held → St
 opened k = record { u = reu_at k.image; m = k.bus; s = k.storage }
 
-module _ (k : Held) (st : Start k) where
+-- a state that no call refuses, from which a swap can start
+pub can_start : (x : St) → Ready x → x.u.attached ≡ true → reg x.u 10 / 64 ≡ 0 → CanStart (held x)
+can_start x r att free =
+    let control : (i : ℕ) → reg x.u 10 / 2 ^ i % 2 ≡ 0 → bit (byte (held x) 10) i ≡ false
+    = λ i h. ap (λ (v : ℕ). bit v i) (reg_byte x r.sound 10 (omega arith)) ∙ zero_bit (reg x.u 10) i h in
+    record {
+      memories =
+          record {
+            bus_bytes = r.bus.bytes;
+            storage_bytes = r.storage.bytes;
+            bus_length = r.bus.size;
+            storage_size = r.storage.size ∙ sym (size_byte x r.sound);
+          };
+      image_bytes = sound_bytes x.u r.sound;
+      accepted = ap (λ (o : Opened). o.refusal) (open_pack x.u (sound_typed x.u r.sound) (sound_well x.u r.sound));
+      exp_unfixed = control 6 (omega arith);
+      c64_unfixed = control 7 (omega arith);
+      attached = attached_bit x r.sound ∙ att;
+    }
+
+module _ (k : Held) (st : CanStart k) where
   long : length k.image ≡ image_size
   long = opened_long k.image st.accepted
 
@@ -174,11 +215,18 @@ module _ (k : Held) (st : Start k) where
   unfixed =
       upper_bits (byte k 10) (st.image_bytes.below 10) (bit_zero (byte k 10) 6 st.exp_unfixed) (bit_zero (byte k 10) 7 st.c64_unfixed)
 
-  pub opened_idling : Idling (opened k)
+  pub opened_attached : (opened k).u.attached ≡ true
   unfolding reu_at
-  opened_idling =
-      record {
-        idle = dma_none k.image long st.idle;
-        attached = ap (λ (v : ℕ). bit v 2) (flags_byte_lem k.image long) ∙ st.attached;
-        free = ap (λ (v : ℕ). v / 64) control ∙ unfixed;
-      }
+  opened_attached = ap (λ (v : ℕ). bit v 2) (flags_byte_lem k.image long) ∙ st.attached
+
+  pub opened_free : reg (opened k).u 10 / 64 ≡ 0
+  opened_free = ap (λ (v : ℕ). v / 64) control ∙ unfixed
+
+pub opened_idling : (k : Held) → Start k → Idling (opened k)
+unfolding reu_at
+opened_idling k st =
+    record {
+      idle = dma_none k.image (opened_long k.image st.can.accepted) st.idle;
+      attached = opened_attached k st.can;
+      free = opened_free k st.can;
+    }

@@ -16,12 +16,13 @@ use Rattle.claims.specs.Calls.{Held, Kind, read, cycle, NumbersFit, Call, leaves
 use Rattle.claims.specs.SwapTwice.{size_set, IsIdle, Start, Step, cycles, reads, writes, AnyStep, NoWrite, register, wrote, granted, High, Run, OfBlock, Shown, ShownAll, bus_place, storage_place, block_length, Exchanged, SwapsAtOnce, Rewrites, Ended, OnceEnded, Swap, Parts, list_of, at_start, at_restart, RunA, RunB, EndsAt, Outcome}
 use Rattle.image.proofs.Sound.{Sound}
 use Rattle.claims.proofs.RegisterLaw.{read_law, Value, pair_done}
+use Rattle.claims.proofs.Places.{on_bus, on_storage}
 use Rattle.claims.proofs.Exchange.{Exch, exch_twice}
 use Rattle.claims.proofs.States.{St, Good, held, on, step_of, number_of, keeps_size, good_step, Ready, ready_of, good_of}
 use Rattle.claims.proofs.Accepted.{leaves_is}
 use Rattle.claims.proofs.Walk.{after_append, each_left, each_right, each_both, each_of_all, widen, At, each_at, number_at, next_is, Walked, walk}
 use Rattle.claims.proofs.Look.{idle_byte, shown_value, Idling, opened, size_is, opened_ready, opened_is, opened_idling}
-use Rattle.claims.proofs.Swap.{on_bus, on_storage, Allowed, idle_high, c64_of, exp_of, len_of, Swapping, SwapFrom, OverFrom, over_from, ended_from, step_from, begins}
+use Rattle.claims.proofs.Swap.{Allowed, idle_high, c64_of, exp_of, len_of, Swapping, SwapFrom, OverFrom, over_from, ended_from, step_from, begins}
 
 -- ---- what is known of each call, joined
 
@@ -164,14 +165,14 @@ module _ (k : Held) (x : St) (e : k ≡ held x) (sound : Sound x.u) (w : ℕ →
       (λ j. long (shows 4 (omega arith) (omega arith) j) (shows 5 (omega arith) (omega arith) j) (w 6)) i)
       ∙ ap (λ (n : ℕ). storage_place n w i) set
 
-  block_length_lem : len_of x.u ≡ block_length w
+  pub block_length_lem : len_of x.u ≡ block_length w
   unfolding length_of
   block_length_lem =
       let q : word (reg x.u 7) (reg x.u 8) ≡ w 7 + 256 * w 8
       = omega (arith, shows 7 (omega arith) (omega arith), shows 8 (omega arith) (omega arith)) in
       ap length_of q
 
-  shown_block : (a b : Held) → size_set a ≡ size
+  pub shown_block : (a b : Held) → size_set a ≡ size
       → Exch (on_bus (c64_of x.u)) (on_storage (lines x.u.size) (exp_of x.u)) (len_of x.u) a.bus a.storage b.bus b.storage
       → Exchanged w a b
   shown_block a b same ex =
@@ -198,8 +199,8 @@ module _ (a : Held) (p : Parts) (sa : Start a) (ra : RunA a p) where
   first_part : Walked (Resting a.bus a.storage (opened a).u.size) RestingCall (λ k g x d good z fi c r. rest a.bus a.storage (opened a).u.size x c.0 c.1 r) (opened a) p.before 0 (λ r. 0)
   first_part =
       walk (Resting a.bus a.storage (opened a).u.size) RestingCall (λ k g x d good z fi c r. rest a.bus a.storage (opened a).u.size x c.0 c.1 r) p.before (opened a) 0 (λ r. 0)
-      (good_of (opened a) (opened_ready a sa)) (opened_idling a sa, refl, refl, refl)
-      (subst (λ (h : Held). Each (At RestingCall) h p.before) (sym (opened_is a sa))
+      (good_of (opened a) (opened_ready a sa.can)) (opened_idling a sa, refl, refl, refl)
+      (subst (λ (h : Held). Each (At RestingCall) h p.before) (sym (opened_is a sa.can))
       (joined HighAt (λ h c. Step (Unit {0}) NoWrite c.kind) RestingCall (λ h c hi q. (hi, q)) a p.before
       (each_left (At HighAt) a p.before (p.start ∷ after_start) all_high) ra.before))
 
@@ -216,18 +217,18 @@ module _ (a : Held) (p : Parts) (sa : Start a) (ra : RunA a p) where
 
   size₁ : x₁.u.size ≡ size_set a
   unfolding x₁
-  size₁ = first_part.inv.3 ∙ sym (size_is a sa)
+  size₁ = first_part.inv.3 ∙ sym (size_is a sa.can)
 
   start_is : at_start a p ≡ held x₁
   unfolding x₁
-  start_is = ap (λ (h : Held). after h p.before) (sym (opened_is a sa)) ∙ first_part.same
+  start_is = ap (λ (h : Held). after h p.before) (sym (opened_is a sa.can)) ∙ first_part.same
 
   good₁ : Good x₁
   unfolding x₁
   good₁ = first_part.good
 
   ready₁ : Ready x₁
-  ready₁ = ready_of x₁ good₁ (ap length bus₁ ∙ sa.memories.bus_length) (ap length storage₁ ∙ sa.memories.storage_size ∙ sym size₁)
+  ready₁ = ready_of x₁ good₁ (ap length bus₁ ∙ sa.can.memories.bus_length) (ap length storage₁ ∙ sa.can.memories.storage_size ∙ sym size₁)
 
   idling₁ : Idling x₁
   unfolding x₁
@@ -332,15 +333,15 @@ module _ (b : Held) (calls : List Call) (sb : Start b) (rb : RunB b calls) where
   idle_part : Walked (StillIdle b.bus b.storage) IdleCall (λ k g x d good z fi c r. still_idle b.bus b.storage x d good z fi c r) (opened b) calls 0 (λ r. 0)
   idle_part =
       walk (StillIdle b.bus b.storage) IdleCall (λ k g x d good z fi c r. still_idle b.bus b.storage x d good z fi c r) calls (opened b) 0 (λ r. 0)
-      (good_of (opened b) (opened_ready b sb)) ((opened_idling b sb).idle, refl, refl)
-      (subst (λ (h : Held). Each (At IdleCall) h calls) (sym (opened_is b sb))
+      (good_of (opened b) (opened_ready b sb.can)) ((opened_idling b sb).idle, refl, refl)
+      (subst (λ (h : Held). Each (At IdleCall) h calls) (sym (opened_is b sb.can))
       (joined (λ h c. High c.kind × AnyStep c.kind) (λ h c. IsIdle (leaves c)) IdleCall (λ h c q i. (q.0, q.1, i)) b calls
       (joined HighAt (λ h c. AnyStep c.kind) (λ h c. High c.kind × AnyStep c.kind) (λ h c hi q. (hi, q)) b calls
       (high_at b calls rb.run) (each_of_all (λ c. AnyStep c.kind) b calls rb.run.kinds))
       rb.stays_idle))
 
   idle_is : after b calls ≡ held idle_part.to
-  idle_is = ap (λ (h : Held). after h calls) (sym (opened_is b sb)) ∙ idle_part.same
+  idle_is = ap (λ (h : Held). after h calls) (sym (opened_is b sb.can)) ∙ idle_part.same
 
   bus_kept : (after b calls).bus ≡ b.bus
   bus_kept = ap (λ (h : Held). h.bus) idle_is ∙ idle_part.inv.1

@@ -1,7 +1,7 @@
--- What a write of COMMAND that starts a swap does, and what the writes of registers 2 to 8 and the reads leave.
+-- What a start of a swap does, by a write of COMMAND or by FF00, and what the writes of registers 2 to 8 and the reads leave.
 use Prim.Native.Nat.{ℕ, zero, suc, ◌+◌, ◌/◌, ◌%◌, ◌<◌, ◌≤◌}
-use mathlib.Core.Bool.{Bool, true, false, cond}
-use mathlib.Core.Path.{◌≡◌, refl, sym, ap, ◌∙◌, subst}
+use mathlib.Core.Bool.{Bool, true, false, cond, ◌&&◌}
+use mathlib.Core.Path.{◌≡◌, refl, sym, ap, ◌∙◌, subst, subst₃}
 use mathlib.Core.Logic.{◌≢◌}
 use mathlib.Core.List.{List}
 use lib.Bits.{bit_and, bit_or, and_mask, or_mod, or_zero_r}
@@ -25,7 +25,7 @@ use Rattle.regs.specs.Registers.{shown}
 use Rattle.regs.specs.StartDma.{requested}
 use Rattle.controller.specs.Registers.{write_at, write_c64, write_exp, write_len, read_register, write_register, write_command}
 use Rattle.transfer.specs.Dma.{type_of, length_of}
-use Rattle.controller.specs.StartDma.{start_dma}
+use Rattle.controller.specs.StartDma.{start_dma, trigger_ff00}
 use Rattle.claims.proofs.CycleLaw.{Reading, Kept, Quiet, swap_state}
 
 -- ---- tests and indices
@@ -61,58 +61,71 @@ pub record Begun (u : Reu) (v : ℕ) (w : Reu) : Type 0 where
   pub command : reg w 1 ≡ v
   pub control : reg w 10 ≡ reg u 10
 
+-- the start itself, of what COMMAND asks for: a swap
+module _ (u : Reu) (att : u.attached ≡ true) (fixed : reg u 10 / 64 ≡ 0) (swap : reg u 1 % 4 ≡ 2) where
+  requested_is : requested u.regs
+      ≡ swap_state ReadC64 (word (reg u 2) (reg u 3)) (long (reg u 4) (reg u 5) (reg u 6)) (length_of (word (reg u 7) (reg u 8))) 0 (bit (reg u 1) 5) true false
+  unfolding asked requested type_of
+  requested_is =
+      λ i. asked (kind i) (word (reg u 2) (reg u 3)) (long (reg u 4) (reg u 5) (reg u 6)) (length_of (word (reg u 7) (reg u 8)))
+      (zero_bit (reg u 10) 7 (omega arith) i) (zero_bit (reg u 10) 6 (omega arith) i) (bit (reg u 1) 5)
+    where
+      kind : type_of (reg u 1) ≡ Swap
+      kind = ap (λ (n : ℕ). cond (eqb n 0) Store (cond (eqb n 1) Recall (cond (eqb n 2) Swap Verify))) (and_mask (reg u 1) 2 ∙ swap)
+
+  started_as : Reu
+  started_as = with_granted (with_dma (with_irq (set_reg (cleared u) 0 (bit_and (reg u 0) 16)) false) (Some (requested u.regs))) 0
+
+  started : Begun u (reg u 1) (start_dma u)
+  unfolding started_as start_dma
+  started =
+      subst (Begun u (reg u 1)) (sym (on u.attached started_as (set_reg (cleared u) 1 (bit_and (reg u 1) 127)) att))
+      (record {
+        reading =
+            record {
+              latch = 0;
+              stands = record { terminal = refl; refresh = refl; delay = refl; attached = att; auto = bit (reg u 1) 5; one = true; odd = false; transfer = ap Some requested_is };
+            };
+        command = get_or-set_other u.regs 0 1 (bit_and (reg u 0) 16) 0 (omega arith);
+        control = get_or-set_other u.regs 0 10 (bit_and (reg u 0) 16) 0 (omega arith);
+      })
+
+  -- by FF00
+  pub trigger_law : u.waiting_ff00 ≡ true → bit (reg u 1) 7 ≡ true → Begun u (reg u 1) (trigger_ff00 u)
+  unfolding trigger_ff00
+  trigger_law armed go =
+      subst (Begun u (reg u 1)) (sym (on (u.waiting_ff00 && bit (reg u 1) 7) (start_dma u) u (λ i. armed i && go i))) started
+
+-- by a write of COMMAND
 module _ (u : Reu) (v : ℕ) (len : length u.regs ≡ 11) (att : u.attached ≡ true) (fixed : reg u 10 / 64 ≡ 0)
     (swap : v % 4 ≡ 2) (now : bit v 4 ≡ true) (go : bit v 7 ≡ true) where
+  asks : Reu
+  asks = with_armed (set_reg u 1 v) false
+
   command_is : reg (set_reg u 1 v) 1 ≡ v
   command_is = get_or-set_same u.regs 1 v 0 (omega arith)
 
   other_is : (i : ℕ) → i ≢ 1 → reg (set_reg u 1 v) i ≡ reg u i
   other_is i h = get_or-set_other u.regs 1 i v 0 h
 
-  requested_is : requested (set_reg u 1 v).regs
-      ≡ swap_state ReadC64 (word (reg u 2) (reg u 3)) (long (reg u 4) (reg u 5) (reg u 6)) (length_of (word (reg u 7) (reg u 8))) 0 (bit (reg (set_reg u 1 v) 1) 5) true false
-  unfolding asked requested type_of
-  requested_is =
-      λ i. asked (kind i) (word (other_is 2 (omega arith) i) (other_is 3 (omega arith) i))
-      (long (other_is 4 (omega arith) i) (other_is 5 (omega arith) i) (other_is 6 (omega arith) i))
-      (length_of (word (other_is 7 (omega arith) i) (other_is 8 (omega arith) i)))
-      (fix_c64_lem i) (fix_exp_lem i) (bit (reg (set_reg u 1 v) 1) 5)
-    where
-      kind : type_of (reg (set_reg u 1 v) 1) ≡ Swap
-      kind =
-          ap type_of command_is
-          ∙ ap (λ (n : ℕ). cond (eqb n 0) Store (cond (eqb n 1) Recall (cond (eqb n 2) Swap Verify))) (and_mask v 2 ∙ swap)
-
-      fix_c64_lem : bit (reg (set_reg u 1 v) 10) 7 ≡ false
-      fix_c64_lem =
-          ap (λ (x : ℕ). bit x 7) (other_is 10 (omega arith))
-          ∙ zero_bit (reg u 10) 7 (omega arith)
-
-      fix_exp_lem : bit (reg (set_reg u 1 v) 10) 6 ≡ false
-      fix_exp_lem =
-          ap (λ (x : ℕ). bit x 6) (other_is 10 (omega arith))
-          ∙ zero_bit (reg u 10) 6 (omega arith)
-
-  started_as : Reu
-  started_as = with_granted (with_dma (with_irq (set_reg (cleared (set_reg u 1 v)) 0 (bit_and (reg (set_reg u 1 v) 0) 16)) false) (Some (requested (set_reg u 1 v).regs))) 0
-
-  command_starts : write_command u v ≡ started_as
-  unfolding started_as write_command start_dma requested
+  command_starts : write_command u v ≡ start_dma asks
+  unfolding asks write_command
   command_starts =
       on (bit v 7) (cond (bit v 4) (start_dma (with_armed (set_reg u 1 v) false)) (with_armed (set_reg u 1 v) true)) (with_armed (set_reg u 1 v) false)
       go
-      ∙ on (bit v 4) (start_dma (with_armed (set_reg u 1 v) false)) (with_armed (set_reg u 1 v) true)
-      now
-      ∙ on u.attached started_as (set_reg (cleared (set_reg u 1 v)) 1 (bit_and (reg (set_reg u 1 v) 1) 127)) att
+      ∙ on (bit v 4) (start_dma (with_armed (set_reg u 1 v) false)) (with_armed (set_reg u 1 v) true) now
 
-  started_begun : Begun u v started_as
-  unfolding started_as
+  started_begun : Begun u v (start_dma asks)
+  unfolding asks
   started_begun =
+      let b = started asks att (ap (λ (x : ℕ). x / 64) (other_is 10 (omega arith)) ∙ fixed) (ap (λ (x : ℕ). x % 4) command_is ∙ swap) in
       record {
         reading =
-            record { terminal = refl; refresh = refl; delay = refl; attached = att; latch = 0; auto = bit (reg (set_reg u 1 v) 1) 5; one = true; odd = false; transfer = ap Some requested_is };
-        command = get_or-set_other (set_reg u 1 v).regs 0 1 (bit_and (reg (set_reg u 1 v) 0) 16) 0 (omega arith) ∙ command_is;
-        control = get_or-set_other (set_reg u 1 v).regs 0 10 (bit_and (reg (set_reg u 1 v) 0) 16) 0 (omega arith) ∙ other_is 10 (omega arith);
+            subst₃ (Reading (start_dma asks)) (λ i. word (other_is 2 (omega arith) i) (other_is 3 (omega arith) i))
+            (λ i. long (other_is 4 (omega arith) i) (other_is 5 (omega arith) i) (other_is 6 (omega arith) i))
+            (λ i. length_of (word (other_is 7 (omega arith) i) (other_is 8 (omega arith) i))) b.reading;
+        command = b.command ∙ command_is;
+        control = b.control ∙ other_is 10 (omega arith);
       }
 
   pub start_law : (a : ℕ) → a % 32 ≡ 1 → Begun u v (write_register u a v)

@@ -48,7 +48,7 @@ bytes_of n =
     = ap low_byte above ∙ add-mul-mod_self_left (remaining_number n / 256) 256 (n / full_length) ∙ mod-eq_of_lt (omega arith) in
     λ i. (low i, sym high i)
 
-back : (n : ℕ) → IsRemaining n → IsPair (pair_of n) × (remaining_of (pair_of n) ≡ n)
+pub back : (n : ℕ) → IsRemaining n → IsPair (pair_of n) × (remaining_of (pair_of n) ≡ n)
 back n h =
     let whole : word (remaining_number n % 256) (remaining_number n / 256) ≡ remaining_number n = omega arith in
     (omega arith, ap remaining_of (sym (bytes_of n)) ∙ ap length_of whole ∙ remaining_back n h.0 h.1)
@@ -74,7 +74,7 @@ module _ (u : Reu) (m : Option DmaState) where
   unfolding pack_image
   written_is long e = λ i. laid fields (sym (gets_all u.regs register_count long) i ++ other_with u (e i))
 
-packed : (u : Reu) (d : DmaState) → Typed u → u.dma ≡ Some d → pair_in (pack_image u) ≡ pair_of d.remaining
+pub packed : (u : Reu) (d : DmaState) → Typed u → u.dma ≡ Some d → pair_in (pack_image u) ≡ pair_of d.remaining
 packed u d typed e = ap pair_in (written_is u (Some d) typed.regs_long e) ∙ bytes_of d.remaining
 
 -- ---- an image that is opened

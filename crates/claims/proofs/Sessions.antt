@@ -61,11 +61,11 @@ fit_steady (write a v) f = tt
 fit_steady (cycle h n l p) f = tt
 fit_steady (other o) f = f
 
-abbrev AllFit : List Kind → Type 0
+abbrev pub AllFit : List Kind → Type 0
 AllFit [] = Unit {0}
 AllFit (d ∷ ds) = Fit d × AllFit ds
 
-abbrev to : List Kind → St → St
+abbrev pub to : List Kind → St → St
 to [] x = x
 to (d ∷ ds) x = to ds (step_of d x)
 
@@ -137,7 +137,7 @@ module _ (x : St) (g : Ready x) where
 abbrev fresh : List ℕ → List ℕ → St
 fresh m s = record { u = new_reu; m = m; s = s }
 
-abbrev start : List ℕ → List ℕ → St
+abbrev pub start : List ℕ → List ℕ → St
 start m s = record { u = connected new_reu; m = m; s = s }
 
 module _ (m s : List ℕ) (mem : Memories new_size m s) where
@@ -163,10 +163,10 @@ module _ (m s : List ℕ) (mem : Memories new_size m s) where
   start_is = λ i. record { image = (does_ready (other (set_enabled 1)) (fresh m s) ready_fresh tt i).left.image; bus = m; storage = s }
 
   module _ (ds : List Kind) (f : AllFit ds) where
-    played : run m s ds ≡ held (to ds (start m s))
+    pub played : run m s ds ≡ held (to ds (start m s))
     played = ap (play ds) start_is ∙ play_is ds (start m s) ready_start f
 
-    ready_played : Ready (to ds (start m s))
+    pub ready_played : Ready (to ds (start m s))
     ready_played = ready_to ds (start m s) ready_start f
 
     bus_of : (run m s ds).bus ≡ (to ds (start m s)).m
@@ -197,7 +197,7 @@ module _ (m s : List ℕ) (mem : Memories new_size m s) where
 -- ---- the table
 
 -- whoever unfolds this unfolds all that a session computes
-calls_computed : Unit {0}
+unfoldable pub calls_computed : Unit {0}
 unfolding lines count_trailing_zeros run_reu_cycle counted cycle_by core_bus_action next_action decide fall fall_on_read fall_on_swap_write plain fall_on_write action_for_cycle core_c64_access repeated core_tick_dma tick_of tick_running tick_by_type tick_store tick_recall tick_swap tick_verify tick_tail swap_read swap_write tick_refresh advance publish_live_counters read_register write_register write_command core_debug_register start_dma core_trigger_ff00 requested type_of length_of finish_dma update_irq
 calls_computed = tt
 
@@ -236,7 +236,7 @@ module _ (m s : List ℕ) (ne : get_or m 0 0 ≢ get_or s 0 0) where
       (ne_eqb (get_or m 0 0) (get_or s 0 0) ne) ∙ ap tailed e
 
 -- the swap that meets a late fall, on lists that have a first byte
-late_fall : (m s : List ℕ) → length m ≡ 65536 → length s ≡ 524288
+pub late_fall : (m s : List ℕ) → length m ≡ 65536 → length s ≡ 524288
     → ((to (begin 0 0 1 0x92 ++ r16) (start m s)).m ≡ m) × ((to (begin 0 0 1 0x92 ++ r16) (start m s)).s ≡ set s 0 (get_or m 0 0))
 unfolding calls_computed
 late_fall [] s hm hs = absurd (omega arith)

@@ -19,9 +19,7 @@ use Rattle.transfer.specs.Memory.{is_size}
 use Rattle.image.proofs.Sound.{Sound, with_dma_lem}
 use Rattle.controller.specs.Cycle.{run_reu_cycle}
 use Rattle.transfer.specs.Timing.{action_number}
-use Rattle.image.specs.Open.{Opened}
 use Rattle.image.specs.Layout.{present, pack_image}
-use Rattle.image.proofs.Packed.{open_pack}
 use Rattle.reu.specs.Exports.{reu_debug_register}
 use Rattle.transfer.specs.Constants.{command}
 use Rattle.claims.specs.Constants.{transfer_byte}
@@ -30,12 +28,12 @@ use Rattle.claims.specs.Calls.{Held, Memories, Kind, read, write, cycle, Numbers
 use Rattle.claims.specs.SwapTwice.{byte, IsIdle, Start, Step, cycles, reads, writes, AnyStep, NoWrite, register, writes_to, wrote, High, Run, OfBlock, swaps, Rewrites, Ended, OnceEnded, Parts, list_of, at_restart, RunA, RunB}
 use Rattle.claims.proofs.RegisterLaw.{Value, Seven, two, three, four, five, six, seven, eight, is_seven}
 use Rattle.image.proofs.SoundCalls.{sound_new, sound_size}
-use Rattle.image.proofs.Valid.{sound_bytes, sound_well, sound_typed}
-use Rattle.claims.proofs.States.{St, held, on, step_of, value_of, Steady, Ready}
+use Rattle.image.proofs.Valid.{sound_bytes}
+use Rattle.claims.proofs.States.{St, held, on, step_of, value_of, Steady, Ready, ready_of}
 use Rattle.claims.proofs.Accepted.{leaves_is, is_accepted, ready_number, ready_step}
 use Rattle.controller.proofs.Checked.{step_most}
 use Rattle.claims.proofs.Walk.{widen, written_at, next_is}
-use Rattle.claims.proofs.Look.{size_byte, present_byte, debug_value, Idling, opened, opened_ready, opened_is, opened_idling}
+use Rattle.claims.proofs.Look.{present_byte, can_start, debug_value, Idling, opened, opened_ready, opened_is, opened_idling}
 use Rattle.claims.proofs.Swap.{Allowed, idle_high, granted_bit, len_of, SwapFrom, over_from, ended_from, granted_from, step_from, begins}
 
 -- ---- a start
@@ -52,15 +50,12 @@ pub some_start : (size : ℕ) → is_size size ≡ true → (m s : List ℕ) →
     → Start (record { image = pack_image (connected (core_set_size new_reu size)); bus = m; storage = s })
 unfolding pack_image core_set_size enabled_new
 some_start size h m s mem =
-    let u = enabled_new size in
-    let sound = enabled_sound size h in
+    let x : St = record { u = enabled_new size; m = m; s = s } in
     record {
-      memories = subst (λ (n : ℕ). Memories n m s) (sym (size_byte (record { u = u; m = m; s = s }) sound)) mem;
-      image_bytes = sound_bytes u sound;
-      accepted = ap (λ (o : Opened). o.refusal) (open_pack u (sound_typed u sound) (sound_well u sound));
-      exp_unfixed = refl;
-      c64_unfixed = refl;
-      attached = refl;
+      can =
+          can_start x
+          (ready_of x (record { sound = enabled_sound size h; bus = mem.bus_bytes; storage = mem.storage_bytes }) mem.bus_length mem.storage_size)
+          refl refl;
       unarmed = refl;
       idle = refl;
     }
@@ -388,8 +383,8 @@ module _ (x : St) (ready : Ready x) (idl : Idling x) where
 
 pub some_a : (k : Held) → Start k → (p : Parts) × RunA k p
 some_a k st =
-    subst (λ (h : Held). (p : Parts) × RunA h p) (opened_is k st)
-    (parts (opened k) (opened_ready k st) (opened_idling k st), run_a (opened k) (opened_ready k st) (opened_idling k st))
+    subst (λ (h : Held). (p : Parts) × RunA h p) (opened_is k st.can)
+    (parts (opened k) (opened_ready k st.can) (opened_idling k st), run_a (opened k) (opened_ready k st.can) (opened_idling k st))
 
 -- ---- run B
 
@@ -449,6 +444,6 @@ pub some_b : (k : Held) → Start k
     → (calls : List Call) × RunB k calls × All (λ c. accepts c ≡ true) calls × (map (λ c. c.kind) calls ≡ read 0 ∷ write 2 0 ∷ cycle 1 0 0 1 ∷ [])
 some_b k st =
     let x = opened k in
-    let g = opened_ready k st in
+    let g = opened_ready k st.can in
     let i = (opened_idling k st).idle in
-    (three_calls x g i, subst (λ (h : Held). RunB h (three_calls x g i)) (opened_is k st) (run_b x g i), all_accepted x g i, refl)
+    (three_calls x g i, subst (λ (h : Held). RunB h (three_calls x g i)) (opened_is k st.can) (run_b x g i), all_accepted x g i, refl)

@@ -231,3 +231,9 @@ pub ready_left : (x : St) → Ready x → (k : Kind) → Steady k → number_of 
 ready_left x r k s z f =
     subst (λ (n : ℕ). With (Sized bus_size) (Sized n) (step_of k x)) (sym (keeps_size k x s))
     (step (Sized bus_size) (Sized x.u.size) (sized_memory bus_size) (sized_memory x.u.size) x r k z f)
+
+-- a cycle call leaves such memories by any numbers
+pub cycle_left : (x : St) → Ready x → (h n l i : ℕ) → Ready (step_of (cycle h n l i) x)
+cycle_left x r h n l i =
+    subst (λ (k : ℕ). With (Sized bus_size) (Sized k) (step_of (cycle h n l i) x)) (sym (keeps_size (cycle h n l i) x tt))
+    (sound_cycle (Sized bus_size) (Sized x.u.size) (sized_memory bus_size) (sized_memory x.u.size) x.u x.m x.s r (flag h) (flag i) n (flag l))

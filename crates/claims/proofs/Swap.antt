@@ -34,53 +34,13 @@ use Rattle.image.proofs.Sound.{Sound}
 use Rattle.image.proofs.SoundCalls.{length_range}
 use Rattle.claims.proofs.CycleLaw.{Reading, Writing, Quiet, Kept, ReadStep, WriteStep, LastStep, IdleStep, read_step, write_step, last_step, idle_step, quiet_step_lem}
 use Rattle.claims.proofs.RegisterLaw.{Begun, start_law, Rewritten, rewritten_none, rewritten_keep, Value, rewrite_law, read_law, read_stays_quiet}
-use Rattle.claims.proofs.Exchange.{Exch, exch_zero, exch_next}
+use Rattle.claims.proofs.Exchange.{Exch, exch_zero}
+use Rattle.claims.proofs.Places.{on_bus, on_storage, next_bus, next_storage, folded, latched, Clean, Half, clean_latch, clean_read, half_write}
 use Rattle.claims.proofs.States.{St, held, on, step_of, number_of, Steady, keeps_size, Ready}
 use Rattle.claims.proofs.Accepted.{without_bus, answer_is}
 use Rattle.claims.proofs.Look.{ended_reg, reg_ended, Idling}
 
-abbrev pub on_bus : ℕ → ℕ → ℕ
-on_bus c i = (c + i) % 65536
-
--- with so many address lines
-abbrev pub on_storage : ℕ → ℕ → ℕ → ℕ
-on_storage lines e i = (e + i) % 2 ^ lines
-
-bus_apart : (c i j : ℕ) → i < j → j < 65536 → on_bus c i ≢ on_bus c j
-bus_apart c i j h k = omega arith
-
--- two numbers that are less than p apart have other remainders
-remainders : (p a b : ℕ) → a < b → b < a + p → a % p ≢ b % p
-remainders p a b lt near e = go (leb (b / p) (a / p)) refl
-  where
-    da : p * (a / p) + a % p ≡ a
-    da = div-add-mod a p
-
-    db : p * (b / p) + b % p ≡ b
-    db = div-add-mod b p
-
-    go : (t : Bool) → leb (b / p) (a / p) ≡ t → ⊥
-    go true h = let m : p * (b / p) ≤ p * (a / p) = mul-le-mul_left p (leb-true (b / p) (a / p) h) in omega (arith, da, db)
-    go false h =
-        let m : p * suc (a / p) ≤ p * (b / p) = mul-le-mul_left p (leb-false (b / p) (a / p) h) in
-        omega (arith, da, db, mul-suc p (a / p))
-
--- a block has at most 65,536 bytes, which 16 lines or more keep apart
-storage_apart : (lines e i j : ℕ) → 16 ≤ lines → i < j → j < 65536 → on_storage lines e i ≢ on_storage lines e j
-storage_apart lines e i j wide h k =
-    let most : 65536 ≤ 2 ^ lines = pow_mono wide in
-    remainders (2 ^ lines) (e + i) (e + j) (omega arith) (omega arith)
-
-next_bus : (c j : ℕ) → (on_bus c j + 1) % 65536 ≡ on_bus c (suc j)
-next_bus c j = omega arith
-
-next_storage : (e j : ℕ) → ((e + j) % 16777216 + 1) % 16777216 ≡ (e + suc j) % 16777216
-next_storage e j = omega arith
-
-folded : (lines e j : ℕ) → lines ≤ 24 → (e + j) % 16777216 % 2 ^ lines ≡ on_storage lines e j
-folded lines e j h = fold_fold (e + j) lines 24 h
-
-command_ends : (v : ℕ) → bit_or (bit_and v 127) 16 / 128 % 2 ≡ 0
+pub command_ends : (v : ℕ) → bit_or (bit_and v 127) 16 / 128 % 2 ≡ 0
 command_ends v =
     let a : bit_and v 127 ≤ 127 = and_le_r v 127 in
     let b : bit_or (bit_and v 127) 16 < 128 = or_lt 7 (bit_and v 127) 16 (omega arith) (omega arith) in
@@ -103,7 +63,7 @@ granted_bit x sound h i l p z =
     ap (λ (n : ℕ). bit_of (eqb n 2))
     (answer_is x sound (other (bus_action h p i)) (without_bus x.u (length x.m) (length x.s) z))
 
-abbrev after_tick : Ticked → St
+abbrev pub after_tick : Ticked → St
 after_tick t = record { u = t.0.reu; m = t.1; s = t.2 }
 
 kept_of : (u w : Reu) → u.dma ≡ None → Kept (with_dma u None) w → Kept u w
@@ -125,8 +85,7 @@ module _ (W : ℕ → ℕ) (L : ℕ) (wide : 16 ≤ L) (within : L ≤ 24) (c e 
         → Exch (on_bus c) (on_storage L e) j m₀ s₀ x.m x.s → reg x.u 1 / 128 % 2 ≡ 1 → reg x.u 10 / 64 ≡ 0 → Progress k g x
     writing :
         (j : ℕ) → j < n → k ≡ 2 * j + 1 → ((r : ℕ) → g r ≡ 0)
-        → Writing x.u (on_bus c j) ((e + j) % 16777216) (n - j) (get_or s₀ (on_storage L e j) 0) → (s : List ℕ)
-        → Exch (on_bus c) (on_storage L e) j m₀ s₀ x.m s → x.s ≡ set s (on_storage L e j) (get_or m₀ (on_bus c j) 0)
+        → Writing x.u (on_bus c j) ((e + j) % 16777216) (n - j) (latched L c e m₀ s₀ j) → Half L c e m₀ s₀ j x.m x.s
         → reg x.u 1 / 128 % 2 ≡ 1 → reg x.u 10 / 64 ≡ 0 → Progress k g x
     over :
         k ≡ 2 * n → Quiet x.u → Rewritten W g x.u → Exch (on_bus c) (on_storage L e) n m₀ s₀ x.m x.s
@@ -136,9 +95,6 @@ module _ (W : ℕ → ℕ) (L : ℕ) (wide : 16 ≤ L) (within : L ≤ 24) (c e 
   folded_at : (size : ℕ) → lines size ≡ L → (j : ℕ) → (e + j) % 16777216 % 2 ^ lines size ≡ on_storage L e j
   folded_at size same j = ap (λ (k : ℕ). (e + j) % 16777216 % 2 ^ k) same ∙ folded L e j within
 
-  fits : (j : ℕ) → on_storage L e j < length s₀
-  fits j = subst (λ (k : ℕ). on_storage L e j < k) (sym storage_size) (mod-lt (e + j) (pow_pos L))
-
   -- one granted cycle of the read phase
   cycle_reads : (k : ℕ) (g : ℕ → ℕ) (x : St) → lines x.u.size ≡ L → (j : ℕ) → j < n → k ≡ 2 * j → ((r : ℕ) → g r ≡ 0)
       → Exch (on_bus c) (on_storage L e) j m₀ s₀ x.m x.s → reg x.u 1 / 128 % 2 ≡ 1 → reg x.u 10 / 64 ≡ 0
@@ -147,47 +103,39 @@ module _ (W : ℕ → ℕ) (L : ℕ) (wide : 16 ≤ L) (within : L ≤ 24) (c e 
   cycle_reads k g x same j lt ek zero' ex one free t a st =
       writing j lt (omega arith) zero'
       (subst (λ (v : ℕ). Writing t.0.reu (on_bus c j) ((e + j) % 16777216) (n - j) v)
-      (ap (λ (q : ℕ). get_or x.s q 0) (folded_at x.u.size same j) ∙ ex.other_storage (on_storage L e j) (λ i h q. storage_apart L e i j wide h (omega arith) (sym q)))
+      (clean_latch L c e m₀ s₀ wide n few bus_length storage_size j lt x.m ((e + j) % 16777216 % 2 ^ lines x.u.size) (folded_at x.u.size same j) x.s ex)
       st.phase)
-      x.s
-      (rw st.bus ex)
-      (st.storage ∙ (λ i. set x.s (folded_at x.u.size same j i) (ex.other_bus (on_bus c j) (λ i' h q. bus_apart c i' j h (omega arith) (sym q)) i)))
+      (subst₂ (Half L c e m₀ s₀ j) (sym st.bus) (sym st.storage)
+      (clean_read L c e m₀ s₀ wide n few bus_length storage_size j lt x.m ((e + j) % 16777216 % 2 ^ lines x.u.size) (folded_at x.u.size same j) x.s ex))
       (ap (λ (l : List ℕ). get_or l 1 0 / 128 % 2) st.regs ∙ one)
       (ap (λ (l : List ℕ). get_or l 10 0 / 64) st.regs ∙ free)
 
   -- one granted cycle of the write phase, of a byte that is not the last
-  moved_exch : (x : St) (s : List ℕ) (j : ℕ) → j < n → Exch (on_bus c) (on_storage L e) j m₀ s₀ x.m s
-      → x.s ≡ set s (on_storage L e j) (get_or m₀ (on_bus c j) 0) → (m' s' : List ℕ) → m' ≡ set x.m (on_bus c j) (get_or s₀ (on_storage L e j) 0) → s' ≡ x.s
-      → Exch (on_bus c) (on_storage L e) (suc j) m₀ s₀ m' s'
-  moved_exch x s j lt ex es m' s' em es' =
-      rw (em, es' ∙ es)
-      (exch_next (on_bus c) (on_storage L e) j m₀ s₀ x.m s ex (omega arith) (fits j)
-      (λ i h. bus_apart c i j h (omega arith)) (λ i h. storage_apart L e i j wide h (omega arith)))
-
-  cycle_writes : (k : ℕ) (g : ℕ → ℕ) (x : St) (j : ℕ) → suc j < n → k ≡ 2 * j + 1 → ((r : ℕ) → g r ≡ 0) → (s : List ℕ)
-      → Exch (on_bus c) (on_storage L e) j m₀ s₀ x.m s → x.s ≡ set s (on_storage L e j) (get_or m₀ (on_bus c j) 0)
+  cycle_writes : (k : ℕ) (g : ℕ → ℕ) (x : St) (j : ℕ) → suc j < n → k ≡ 2 * j + 1 → ((r : ℕ) → g r ≡ 0) → Half L c e m₀ s₀ j x.m x.s
       → reg x.u 1 / 128 % 2 ≡ 1 → reg x.u 10 / 64 ≡ 0
-      → (t : Ticked) (a : ReuBusAction) → WriteStep x.u (on_bus c j) ((e + j) % 16777216) (n - j) (get_or s₀ (on_storage L e j) 0) x.m x.s t a
+      → (t : Ticked) (a : ReuBusAction) → WriteStep x.u (on_bus c j) ((e + j) % 16777216) (n - j) (latched L c e m₀ s₀ j) x.m x.s t a
       → Progress (1 + k) g (after_tick t)
-  cycle_writes k g x j lt ek zero' s ex es one free t a st =
+  cycle_writes k g x j lt ek zero' half one free t a st =
       let left : n - j - 1 ≡ n - suc j = omega arith in
       reading (suc j) lt (omega arith) zero'
       (subst (λ (q : ℕ). Reading t.0.reu (on_bus c (suc j)) ((e + suc j) % 16777216) q) left
       (subst (λ (q : ℕ). Reading t.0.reu (on_bus c (suc j)) q (n - j - 1)) (next_storage e j)
       (subst (λ (q : ℕ). Reading t.0.reu q (((e + j) % 16777216 + 1) % 16777216) (n - j - 1)) (next_bus c j) st.phase)))
-      (moved_exch x s j (omega arith) ex es t.1 t.2 st.bus st.storage)
+      (subst₂ (Clean L c e m₀ s₀ (suc j)) (sym st.bus) (sym st.storage)
+      (half_write L c e m₀ s₀ wide n few bus_length storage_size j (omega arith) x.m x.s half))
       (ap (λ (q : ℕ). q / 128 % 2) st.command ∙ one) (ap (λ (q : ℕ). q / 64) st.control ∙ free)
 
   -- of the last byte
-  cycle_lasts : (k : ℕ) (g : ℕ → ℕ) (x : St) (j : ℕ) → suc j ≡ n → k ≡ 2 * j + 1 → ((r : ℕ) → g r ≡ 0) → (s : List ℕ)
-      → Exch (on_bus c) (on_storage L e) j m₀ s₀ x.m s → x.s ≡ set s (on_storage L e j) (get_or m₀ (on_bus c j) 0)
+  cycle_lasts : (k : ℕ) (g : ℕ → ℕ) (x : St) (j : ℕ) → suc j ≡ n → k ≡ 2 * j + 1 → ((r : ℕ) → g r ≡ 0) → Half L c e m₀ s₀ j x.m x.s
       → reg x.u 10 / 64 ≡ 0
-      → (t : Ticked) (a : ReuBusAction) → LastStep x.u (on_bus c j) (get_or s₀ (on_storage L e j) 0) x.m x.s t a
+      → (t : Ticked) (a : ReuBusAction) → LastStep x.u (on_bus c j) (latched L c e m₀ s₀ j) x.m x.s t a
       → Progress (1 + k) g (after_tick t)
-  cycle_lasts k g x j last ek zero' s ex es free t a st =
+  cycle_lasts k g x j last ek zero' half free t a st =
       over (omega arith) st.quiet
       (subst (λ (f : ℕ → ℕ). Rewritten W f t.0.reu) (fun_ext (λ r. sym (zero' r))) (rewritten_none W t.0.reu))
-      (subst (λ (q : ℕ). Exch (on_bus c) (on_storage L e) q m₀ s₀ t.1 t.2) last (moved_exch x s j (omega arith) ex es t.1 t.2 st.bus st.storage))
+      (subst (λ (q : ℕ). Clean L c e m₀ s₀ q t.1 t.2) last
+      (subst₂ (Clean L c e m₀ s₀ (suc j)) (sym st.bus) (sym st.storage)
+      (half_write L c e m₀ s₀ wide n few bus_length storage_size j (omega arith) x.m x.s half)))
       (ap (λ (q : ℕ). q / 128 % 2) st.command ∙ command_ends (reg x.u 1))
       (ap (λ (q : ℕ). q / 64) st.control ∙ free)
 
@@ -199,27 +147,27 @@ module _ (W : ℕ → ℕ) (L : ℕ) (wide : 16 ≤ L) (within : L ≤ 24) (c e 
   cycled : (k : ℕ) (g : ℕ → ℕ) (x : St) (low : Bool) (i : ℕ) → Sound x.u → lines x.u.size ≡ L → Progress k g x
       → Cycled k g (run_reu_cycle x.u x.m x.s true true i low) (core_bus_action x.u x.s true true i).0.action
   cycled k g x low i sound same (reading j lt ek zero' rd ex one free) =
-      let st = read_step x.u (on_bus c j) ((e + j) % 16777216) (n - j) rd x.m x.s i low in
+      let st = read_step x.u (on_bus c j) ((e + j) % 16777216) (n - j) rd x.m x.s true i low in
       moves st.granted (cycle_reads k g x same j lt ek zero' ex one free _ _ st)
-  cycled k g x low i sound same (writing j lt ek zero' wr s ex es one free) = go (ℕ_discrete (n - j) 1)
+  cycled k g x low i sound same (writing j lt ek zero' wr half one free) = go (ℕ_discrete (n - j) 1)
     where
       latch : ℕ
-      latch = get_or s₀ (on_storage L e j) 0
+      latch = latched L c e m₀ s₀ j
 
       go : Dec (n - j ≡ 1) → Cycled k g (run_reu_cycle x.u x.m x.s true true i low) (core_bus_action x.u x.s true true i).0.action
       go (yes q) =
           let st = last_step x.u (on_bus c j) ((e + j) % 16777216) latch (subst (λ (r : ℕ). Writing x.u (on_bus c j) ((e + j) % 16777216) r latch) q wr)
-          sound.regs.len x.m x.s i low in
-          moves st.granted (cycle_lasts k g x j (omega arith) ek zero' s ex es free _ _ st)
+          sound.regs.len x.m x.s true i low in
+          moves st.granted (cycle_lasts k g x j (omega arith) ek zero' half free _ _ st)
       go (no q) =
-          let st = write_step x.u (on_bus c j) ((e + j) % 16777216) (n - j) latch wr (ne_eqb (n - j) 1 q) x.m x.s i low in
-          moves st.granted (cycle_writes k g x j (omega arith) ek zero' s ex es one free _ _ st)
+          let st = write_step x.u (on_bus c j) ((e + j) % 16777216) (n - j) latch wr (ne_eqb (n - j) 1 q) x.m x.s true i low in
+          moves st.granted (cycle_writes k g x j (omega arith) ek zero' half one free _ _ st)
   cycled k g x low i sound same (over ek q re ex ended free) =
-      let st = idle_step x.u q.idle x.m x.s i low in
-      let sq = quiet_step_lem x.u q x.m x.s i low in
-      rests sq.granted ek
-      (over ek sq.quiet (rewritten_keep W g g x.u _ (kept_of x.u _ q.idle st.kept) (λ r. refl) re) (rw (st.bus, st.storage) ex)
-      (ap (λ (v : ℕ). v / 128 % 2) (st.kept.regs 1 (omega arith)) ∙ ended) (ap (λ (v : ℕ). v / 64) (st.kept.regs 10 (omega arith)) ∙ free))
+      let st = quiet_step_lem x.u q x.m x.s true true i low in
+      let ke = kept_of x.u _ q.idle st.step.kept in
+      rests st.granted ek
+      (over ek st.quiet (rewritten_keep W g g x.u _ ke (λ r. refl) re) (rw (st.step.bus, st.step.storage) ex)
+      (ap (λ (v : ℕ). v / 128 % 2) (ke.regs 1 (omega arith)) ∙ ended) (ap (λ (v : ℕ). v / 64) (ke.regs 10 (omega arith)) ∙ free))
 
   counted : (k : ℕ) (g : ℕ → ℕ) (t : Ticked) (a : ReuBusAction) → Cycled k g t a → Progress (bit_of (eqb (action_number a) 2) + k) g (after_tick t)
   counted k g t a (moves e p) = subst (λ (q : ReuBusAction). Progress (bit_of (eqb (action_number q) 2) + k) g (after_tick t)) (sym e) p
@@ -243,14 +191,14 @@ module _ (W : ℕ → ℕ) (L : ℕ) (wide : 16 ≤ L) (within : L ≤ 24) (c e 
   pub over_of : (k : ℕ) (g : ℕ → ℕ) (x : St) → Sound x.u → Progress k g x → Ended (held x) → Over k g x
   over_of k g x sound (reading j lt ek zero' rd ex one free) en =
       absurd (omega (arith, ended_reg x sound en))
-  over_of k g x sound (writing j lt ek zero' wr s ex es one free) en =
+  over_of k g x sound (writing j lt ek zero' wr half one free) en =
       absurd (omega (arith, ended_reg x sound en))
   over_of k g x sound (over ek q re ex ended free) en =
       record { total = ek; quiet = q; rewritten = re; exch = ex; ended = ended; free = free }
 
   pub ended_of : (k : ℕ) (g : ℕ → ℕ) (x : St) → Sound x.u → Progress k g x → k ≡ 2 * n → Ended (held x)
   ended_of k g x sound (reading j lt ek zero' rd ex one free) t = absurd (omega arith)
-  ended_of k g x sound (writing j lt ek zero' wr s ex es one free) t = absurd (omega arith)
+  ended_of k g x sound (writing j lt ek zero' wr half one free) t = absurd (omega arith)
   ended_of k g x sound (over ek q re ex ended free) t = reg_ended x sound ended
 
   -- any call that may come
@@ -301,11 +249,14 @@ step_steady (reads r) = tt
 step_steady (writes w) = tt
 
 module _ (x : St) (ready : Ready x) where
-  small_word : (i j : ℕ) → word (reg x.u i) (reg x.u j) < 65536
+  pub small_word : (i j : ℕ) → word (reg x.u i) (reg x.u j) < 65536
   small_word i j =
       let a : reg x.u i < 256 = (ready.sound.regs.fits i).byte in
       let b : reg x.u j < 256 = (ready.sound.regs.fits j).byte in
       omega arith
+
+  pub one_byte : 1 ≤ len_of x.u
+  one_byte = (length_range (word (reg x.u 7) (reg x.u 8)) (small_word 7 8)).0
 
   pub few : len_of x.u ≤ 65536
   few = (length_range (word (reg x.u 7) (reg x.u 8)) (small_word 7 8)).1
@@ -369,7 +320,7 @@ module _ (x : St) (ready : Ready x) where
       let ec : c64_of x.u ≡ on_bus (c64_of x.u) 0 = omega arith in
       let ee : exp_of x.u ≡ (exp_of x.u + 0) % 16777216 = omega arith in
       let er : len_of x.u ≡ len_of x.u - 0 = omega arith in (
-        reading 0 (length_range (word (reg x.u 7) (reg x.u 8)) (small_word 7 8)).0 refl (λ r. refl)
+        reading 0 one_byte refl (λ r. refl)
             (subst (λ (q : ℕ). Reading (write_register x.u a v) (on_bus (c64_of x.u) 0) ((exp_of x.u + 0) % 16777216) q) er
             (subst₂ (λ (q q' : ℕ). Reading (write_register x.u a v) q q' (len_of x.u)) ec ee b.reading))
             (exch_zero (on_bus (c64_of x.u)) (on_storage connected_lines (exp_of x.u)) x.m x.s)

@@ -8,3 +8,4 @@ pub mod PassedTop
 pub mod RemainingBytes
 pub mod ChipSize
 pub mod AutoloadStores
+pub mod SwapOnScreen

@@ -28,15 +28,18 @@ size_set k = size_of (byte k more_flags_byte / 4)
 abbrev pub IsIdle : Held → Type 0
 IsIdle k = byte k transfer_byte ≡ 0
 
--- "any accepted image that is unfixed, attached, unarmed and idle by bytes 10, 18 and 21", with a bus and a storage of
--- the size that is set
-pub record Start (k : Held) : Type 0 where
+-- what a swap's start needs: an accepted image that is unfixed and attached, with a bus and a storage of the size that is set
+pub record CanStart (k : Held) : Type 0 where
   pub memories : Memories (size_set k) k.bus k.storage
   pub image_bytes : Bytes k.image
   pub accepted : (open_image k.image).refusal ≡ 0
   pub exp_unfixed : bit (byte k address_control) 6 ≡ false
   pub c64_unfixed : bit (byte k address_control) 7 ≡ false
   pub attached : bit (byte k flags_byte) 2 ≡ true
+
+-- "any accepted image that is unfixed, attached, unarmed and idle by bytes 10, 18 and 21"
+pub record Start (k : Held) : Type 0 where
+  pub can : CanStart k
   pub unarmed : bit (byte k flags_byte) 3 ≡ false
   pub idle : IsIdle k
 

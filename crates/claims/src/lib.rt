@@ -9,6 +9,7 @@ ghost use Rattle.claims.specs.PassedTop.{PassedTop};
 ghost use Rattle.claims.specs.RemainingBytes.{RemainingBytes};
 ghost use Rattle.claims.specs.SavedMachine.{EveryStateOpens, RoundTrips};
 ghost use Rattle.claims.specs.Sessions.{Sessions};
+ghost use Rattle.claims.specs.SwapOnScreen.{SwapOnScreen};
 ghost use Rattle.claims.specs.SwapTwice.{SwapTwice};
 
 // Demand 3: a block swapped twice is back, and a run that stays idle ends with the same bytes.
@@ -57,4 +58,10 @@ pub fn chip_size()
 // before, they give registers 2 to 8 after. And which ticks and cycles end a command.
 pub fn autoload_stores()
     ensures { AutoloadStores }
+{}
+
+// A swap while BA falls and rises as a screen has it: the block has changed places at the end if no low call stands alone, from a start by COMMAND or by
+// FF00, at each size; with BA high long enough it ends. And R16, which has one.
+pub fn swap_on_screen()
+    ensures { SwapOnScreen }
 {}

@@ -1,0 +1,332 @@
+-- A swap while BA falls and rises: how it stands before each call, and what bus, storage and latch hold then.
+use Prim.Native.Nat.{ℕ, zero, suc, ◌+◌, ◌-◌, ◌/◌, ◌%◌, ◌^◌, ◌<◌, ◌≤◌}
+use mathlib.Core.Bool.{Bool, true, false}
+use mathlib.Core.Path.{◌≡◌, refl, sym, ap, ◌∙◌, subst, subst₂}
+use mathlib.Core.Logic.{◌≢◌, ◌⊎◌, inl, inr}
+use mathlib.Core.List.{List}
+use lib.ListN.{length, get_or, set}
+use native.Mathlib.Omega.{arith}
+use Rattle.std.specs.Prelude.{Some}
+use Rattle.transfer.specs.declared.dma.DmaState.{DmaState}
+use Rattle.transfer.specs.declared.dma.SwapPhase.{SwapPhase}
+use Rattle.transfer.specs.declared.dma.SwapPhase.TheVariants.{ReadC64, WriteC64}
+use Rattle.transfer.specs.Memory.{lines}
+use Rattle.controller.specs.Reu.{reg}
+use Rattle.controller.specs.TickDma.{Ticked}
+use Rattle.controller.specs.Cycle.{run_reu_cycle}
+use Rattle.claims.proofs.CycleLaw.{Quiet, Stands, swap_state, quiet_step_lem}
+use Rattle.claims.proofs.BaLaw.{After, Ends, Reads, reads, waits, delays, pairs, Writes, writes, finishes, again, stays, refreshes, gives_up, before_read, delayed_two, delayed_one, before_write, in_pair, refreshed}
+use Rattle.claims.proofs.Places.{on_bus, on_storage, next_bus, next_storage, folded, latched, Clean, Half, clean_latch, clean_read, half_back, half_again, again_latch, half_refresh, half_write}
+use Rattle.claims.proofs.States.{St}
+use Rattle.claims.proofs.Swap.{after_tick, command_ends}
+
+-- what BA was at the call before the i-th, from the history flag at the start
+abbrev pub previous : Bool → (ℕ → Bool) → ℕ → Bool
+previous w B zero = w
+previous w B (suc i) = B i
+
+abbrev pub Going : St → Type 0
+Going x = reg x.u 1 / 128 % 2 ≡ 1
+
+-- L address lines; the block and the memories at the start; what BA was before it, and is at each call
+module _ (L : ℕ) (wide : 16 ≤ L) (within : L ≤ 24) (c e n : ℕ) (few : n ≤ 65536) (m₀ s₀ : List ℕ)
+    (bus_length : length m₀ ≡ 65536) (storage_long : length s₀ ≡ 2 ^ L) (w₀ : Bool) (B : ℕ → Bool) where
+  abbrev old : ℕ → ℕ
+  old = latched L c e m₀ s₀
+
+  abbrev Whole : ℕ → List ℕ → List ℕ → Type 0
+  Whole = Clean L c e m₀ s₀
+
+  abbrev Halved : ℕ → List ℕ → List ℕ → Type 0
+  Halved = Half L c e m₀ s₀
+
+  -- where the controller folds byte j to
+  abbrev place : St → ℕ → ℕ
+  place x j = (e + j) % 16777216 % 2 ^ lines x.u.size
+
+  place_is : (x : St) → lines x.u.size ≡ L → (j : ℕ) → place x j ≡ on_storage L e j
+  place_is x same j = ap (λ (k : ℕ). (e + j) % 16777216 % 2 ^ k) same ∙ folded L e j within
+
+  -- ---- before call i, with j bytes done
+
+  pub record At (j i : ℕ) (x : St) (p : SwapPhase) (t f : Bool) (d l : ℕ) : Type 0 where
+    pub lt : j < n
+    pub history : x.u.ba_was_high ≡ previous w₀ B i
+    pub going : Going x
+    pub stands : Stands x.u p t f d (on_bus c j) ((e + j) % 16777216) (n - j) l
+
+  -- after a fall BA stays low for this call
+  pub record Low (i : ℕ) : Type 0 where
+    pub now : B i ≡ false
+    pub was : previous w₀ B i ≡ false
+
+  pub data Progress (j i : ℕ) (x : St) : Type 0 where
+    reading : (l : ℕ) → At j i x ReadC64 false false 0 l → Whole j x.m x.s → Progress j i x
+    delayed_by_two : (l : ℕ) → Low i → At j i x ReadC64 false false 2 l → Whole j x.m x.s → Progress j i x
+    delayed_by_one : (l : ℕ) → At j i x ReadC64 false false 1 l → Whole j x.m x.s → Progress j i x
+    writing : At j i x WriteC64 false false 0 (old j) → Halved j x.m x.s → Progress j i x
+    refreshing : Low i → At j i x WriteC64 false true 1 (old j) → Halved j x.m x.s → Progress j i x
+    terminal : Low i → n - j ≡ 1 → At j i x WriteC64 true false 0 (old j) → Halved j x.m x.s → Progress j i x
+    over : j ≡ n → Quiet x.u → Whole n x.m x.s → reg x.u 1 / 128 % 2 ≡ 0 → Progress j i x
+
+  -- it runs, or it is over
+  pub record Live (j : ℕ) (x : St) : Type 0 where
+    pub lt : j < n
+    pub going : Going x
+    pub state : DmaState
+    pub transfer : x.u.dma ≡ Some state
+    pub remaining : state.remaining ≡ n - j
+
+  pub record Over (j : ℕ) (x : St) : Type 0 where
+    pub total : j ≡ n
+    pub quiet : Quiet x.u
+    pub exch : Whole n x.m x.s
+    pub ended : reg x.u 1 / 128 % 2 ≡ 0
+
+  live : {j i : ℕ} {x : St} {p : SwapPhase} {t f : Bool} {d l : ℕ} → At j i x p t f d l → Live j x
+  live {j} {p = p} {l = l} a =
+      record {
+        lt = a.lt;
+        going = a.going;
+        state = swap_state p (on_bus c j) ((e + j) % 16777216) (n - j) l a.stands.auto a.stands.one a.stands.odd;
+        transfer = a.stands.transfer;
+        remaining = refl;
+      }
+
+  pub view : (j i : ℕ) (x : St) → Progress j i x → Live j x ⊎ Over j x
+  view j i x (reading l a h) = inl (live a)
+  view j i x (delayed_by_two l b a h) = inl (live a)
+  view j i x (delayed_by_one l a h) = inl (live a)
+  view j i x (writing a h) = inl (live a)
+  view j i x (refreshing b a h) = inl (live a)
+  view j i x (terminal b r a h) = inl (live a)
+  view j i x (over q k h o) = inr (record { total = q; quiet = k; exch = h; ended = o })
+
+  -- its write comes next; its read does
+  abbrev pub IsWriting : {j i : ℕ} {x : St} → Progress j i x → Type 0
+  IsWriting (reading l a h) = ⊥
+  IsWriting (delayed_by_two l b a h) = ⊥
+  IsWriting (delayed_by_one l a h) = ⊥
+  IsWriting (writing a h) = Unit {0}
+  IsWriting (refreshing b a h) = ⊥
+  IsWriting (terminal b r a h) = ⊥
+  IsWriting (over q k h o) = ⊥
+
+  abbrev pub IsReading : {j i : ℕ} {x : St} → Progress j i x → Type 0
+  IsReading (reading l a h) = Unit {0}
+  IsReading (delayed_by_two l b a h) = ⊥
+  IsReading (delayed_by_one l a h) = ⊥
+  IsReading (writing a h) = ⊥
+  IsReading (refreshing b a h) = ⊥
+  IsReading (terminal b r a h) = ⊥
+  IsReading (over q k h o) = ⊥
+
+  -- ---- one call
+
+  pub record Stepped {j i : ℕ} {x : St} (p : Progress j i x) (y : St) : Type 0 where
+    pub to : ℕ
+    pub more : j ≤ to
+    pub here : Progress to (suc i) y
+    -- a high call completes a byte, or a write comes next
+    pub moves : B i ≡ true → j < n → (j < to) ⊎ IsWriting here
+    -- a write that comes next is done if BA stays high
+    pub fires : IsWriting p → previous w₀ B i ≡ true → B i ≡ true → j < to
+    -- a read completes no byte
+    pub slow : IsReading p → to ≡ j
+
+  clash : {A : Type 0} (b : Bool) → b ≡ true → b ≡ false → A
+  clash b p q = absurd (let z : ◌≡◌ {A = ℕ} 0 1 = cc in omega arith)
+
+  module _ (j i : ℕ) (x : St) (same : lines x.u.size ≡ L) where
+    next_at : {p p' : SwapPhase} {t f t' f' : Bool} {d d' l l' : ℕ} {m s : List ℕ} {z : Ticked} → At j i x p t f d l
+        → After (reg x.u 1) (B i) m s p' t' f' d' (on_bus c j) ((e + j) % 16777216) (n - j) l' z → At j (suc i) (after_tick z) p' t' f' d' l'
+    next_at h a =
+        record { lt = h.lt; history = a.history; going = ap (λ (v : ℕ). v / 128 % 2) a.command ∙ h.going; stands = a.stands }
+
+    -- the read is done
+    has_read : {p : SwapPhase} {t f t' : Bool} {d l : ℕ} {z : Ticked} → At j i x p t f d l → Whole j x.m x.s
+        → After (reg x.u 1) (B i) x.m (set x.s (place x j) (get_or x.m (on_bus c j) 0)) WriteC64 t' false 0 (on_bus c j) ((e + j) % 16777216) (n - j) (get_or x.s (place x j) 0) z
+        → At j (suc i) (after_tick z) WriteC64 t' false 0 (old j) × Halved j z.1 z.2
+    has_read {t' = t'} {z = z} h cl a = (
+      subst (λ (q : ℕ). At j (suc i) (after_tick z) WriteC64 t' false 0 q)
+          (clean_latch L c e m₀ s₀ wide n few bus_length storage_long j h.lt x.m (place x j) (place_is x same j) x.s cl) (next_at h a),
+      subst₂ (Halved j) (sym a.bus) (sym a.storage)
+          (clean_read L c e m₀ s₀ wide n few bus_length storage_long j h.lt x.m (place x j) (place_is x same j) x.s cl),
+    )
+
+    -- the byte is done
+    has_written : {l : ℕ} {z : Ticked} → At j i x WriteC64 false false 0 (old j) → Halved j x.m x.s → n - j ≢ 1
+        → After (reg x.u 1) (B i) (set x.m (on_bus c j) (old j)) x.s ReadC64 false false 0 ((on_bus c j + 1) % 65536) (((e + j) % 16777216 + 1) % 16777216) (n - j - 1) l z
+        → Progress (suc j) (suc i) (after_tick z)
+    has_written {l} {z} h hf more a =
+        let left : n - j - 1 ≡ n - suc j = omega arith in
+        reading l
+        (record {
+          lt = omega (arith, h.lt);
+          history = a.history;
+          going = ap (λ (v : ℕ). v / 128 % 2) a.command ∙ h.going;
+          stands =
+              subst (λ (q : ℕ). Stands z.0.reu ReadC64 false false 0 (on_bus c (suc j)) ((e + suc j) % 16777216) q l) left
+              (subst₂ (λ (q q' : ℕ). Stands z.0.reu ReadC64 false false 0 q q' (n - j - 1) l) (next_bus c j) (next_storage e j) a.stands);
+        })
+        (subst₂ (Whole (suc j)) (sym a.bus) (sym a.storage) (half_write L c e m₀ s₀ wide n few bus_length storage_long j h.lt x.m x.s hf))
+
+    has_ended : {z : Ticked} → j < n → Halved j x.m x.s → n - j ≡ 1 → Ends (reg x.u 1) (set x.m (on_bus c j) (old j)) x.s z
+        → Progress (suc j) (suc i) (after_tick z)
+    has_ended {z} lt hf last a =
+        let all : suc j ≡ n = omega arith in
+        over all a.quiet
+        (subst (λ (q : ℕ). Whole q z.1 z.2) all
+        (subst₂ (Whole (suc j)) (sym a.bus) (sym a.storage) (half_write L c e m₀ s₀ wide n few bus_length storage_long j lt x.m x.s hf)))
+        (ap (λ (v : ℕ). v / 128 % 2) a.command ∙ command_ends (reg x.u 1))
+
+    module _ (two : Going x → previous w₀ B i ≡ true → B i ≡ false → B (suc i) ≡ false) (len : length x.u.regs ≡ 11) (high low : Bool) (num : ℕ) where
+      from_reading : {l : ℕ} (h : At j i x ReadC64 false false 0 l) (cl : Whole j x.m x.s) (z : Ticked)
+          → Reads x.u (on_bus c j) ((e + j) % 16777216) (n - j) x.m x.s high num low (previous w₀ B i) (B i) l z
+          → Stepped (reading l h cl) (after_tick z)
+      from_reading h cl z (reads b a) =
+          let w = has_read h cl a in
+          record { to = j; more = omega arith; here = writing w.0 w.1; moves = λ hi lt. inr tt; fires = λ f. absurd f; slow = λ f. refl }
+      from_reading {l} h cl z (waits b a) =
+          record {
+            to = j;
+            more = omega arith;
+            here = reading l (next_at h a) (subst₂ (Whole j) (sym a.bus) (sym a.storage) cl);
+            moves = λ hi lt. clash (B i) hi b;
+            fires = λ f. absurd f;
+            slow = λ f. refl;
+          }
+      from_reading {l} h cl z (delays w b a) =
+          record {
+            to = j;
+            more = omega arith;
+            here = delayed_by_two l (record { now = two h.going w b; was = b }) (next_at h a) (subst₂ (Whole j) (sym a.bus) (sym a.storage) cl);
+            moves = λ hi lt. clash (B i) hi b;
+            fires = λ f. absurd f;
+            slow = λ f. refl;
+          }
+      from_reading h cl z (pairs w b last a) =
+          let r = has_read h cl a in
+          record {
+            to = j;
+            more = omega arith;
+            here = terminal (record { now = two h.going w b; was = b }) last r.0 r.1;
+            moves = λ hi lt. clash (B i) hi b;
+            fires = λ f. absurd f;
+            slow = λ f. refl;
+          }
+
+      from_writing : (h : At j i x WriteC64 false false 0 (old j)) (hf : Halved j x.m x.s) (z : Ticked)
+          → Writes x.u (on_bus c j) ((e + j) % 16777216) (n - j) x.m x.s high num low (previous w₀ B i) (B i) (old j) z
+          → Stepped (writing h hf) (after_tick z)
+      from_writing h hf z (writes k b ne a) =
+          record { to = suc j; more = omega arith; here = has_written h hf ne a; moves = λ hi lt. inl (omega arith); fires = λ f w hi. omega arith; slow = λ f. absurd f }
+      from_writing h hf z (finishes b last a) =
+          record { to = suc j; more = omega arith; here = has_ended h.lt hf last a; moves = λ hi lt. inl (omega arith); fires = λ f w hi. omega arith; slow = λ f. absurd f }
+      from_writing h hf z (again w b a) =
+          record {
+            to = j;
+            more = omega arith;
+            here =
+                writing
+                (subst (λ (q : ℕ). At j (suc i) (after_tick z) WriteC64 false false 0 q)
+                (again_latch L c e m₀ s₀ wide n few bus_length storage_long j h.lt x.m (place x j) (place_is x same j) x.s hf) (next_at h a))
+                (subst₂ (Halved j) (sym a.bus) (sym a.storage)
+                (half_again L c e m₀ s₀ wide n few bus_length storage_long j h.lt x.m (place x j) (place_is x same j) x.s hf));
+            moves = λ hi lt. inr tt;
+            fires = λ f w' hi. clash (previous w₀ B i) w' w;
+            slow = λ f. absurd f;
+          }
+      from_writing h hf z (stays b a) =
+          record {
+            to = j;
+            more = omega arith;
+            here = writing (next_at h a) (subst₂ (Halved j) (sym a.bus) (sym a.storage) hf);
+            moves = λ hi lt. clash (B i) hi b;
+            fires = λ f w hi. clash (B i) hi b;
+            slow = λ f. absurd f;
+          }
+      from_writing h hf z (refreshes w b a) =
+          record {
+            to = j;
+            more = omega arith;
+            here = refreshing (record { now = two h.going w b; was = b }) (next_at h a) (subst₂ (Halved j) (sym a.bus) (sym a.storage) hf);
+            moves = λ hi lt. clash (B i) hi b;
+            fires = λ f w' hi. clash (B i) hi b;
+            slow = λ f. absurd f;
+          }
+      from_writing h hf z (gives_up b a) =
+          record {
+            to = j;
+            more = omega arith;
+            here =
+                reading (old j) (next_at h a)
+                (subst₂ (Whole j) (sym a.bus) (sym a.storage)
+                (half_back L c e m₀ s₀ wide n few bus_length storage_long j h.lt x.m (place x j) (place_is x same j) x.s hf));
+            moves = λ hi lt. clash (B i) hi b;
+            fires = λ f w' hi. clash (B i) hi b;
+            slow = λ f. absurd f;
+          }
+
+      abbrev turned : Bool → Ticked
+      turned phi1 = run_reu_cycle x.u x.m x.s high phi1 num low
+
+      -- whatever the swap has come to
+      pub step : (p : Progress j i x) → Stepped p (after_tick (turned (B i)))
+      step (reading l h cl) =
+          from_reading h cl (turned (B i))
+          (before_read x.u (on_bus c j) ((e + j) % 16777216) (n - j) x.m x.s high num low l (previous w₀ B i) (B i) h.history h.stands)
+      step (delayed_by_two l b h cl) =
+          let a = delayed_two x.u (on_bus c j) ((e + j) % 16777216) (n - j) x.m x.s high num low l (B i) h.stands in
+          record {
+            to = j;
+            more = omega arith;
+            here = delayed_by_one l (next_at h a) (subst₂ (Whole j) (sym a.bus) (sym a.storage) cl);
+            moves = λ hi lt. clash (B i) hi b.now;
+            fires = λ f. absurd f;
+            slow = λ f. absurd f;
+          }
+      step (delayed_by_one l h cl) =
+          let w = has_read h cl (delayed_one x.u (on_bus c j) ((e + j) % 16777216) (n - j) x.m x.s high num low l (B i) h.stands) in
+          record { to = j; more = omega arith; here = writing w.0 w.1; moves = λ hi lt. inr tt; fires = λ f. absurd f; slow = λ f. absurd f }
+      step (writing h hf) =
+          from_writing h hf (turned (B i))
+          (before_write x.u (on_bus c j) ((e + j) % 16777216) (n - j) x.m x.s high num low len (old j) (previous w₀ B i) (B i) h.history h.stands)
+      step (refreshing b h hf) =
+          let a : After (reg x.u 1) (B i) x.m (set x.s (place x j) (get_or x.m (on_bus c j) 0)) WriteC64 false false 0 (on_bus c j) ((e + j) % 16777216) (n - j) (old j) (turned (B i))
+          = subst (λ (y : Bool). After (reg x.u 1) y x.m (set x.s (place x j) (get_or x.m (on_bus c j) 0)) WriteC64 false false 0 (on_bus c j) ((e + j) % 16777216) (n - j) (old j) (turned y))
+          (sym b.now)
+          (refreshed x.u (on_bus c j) ((e + j) % 16777216) (n - j) x.m x.s high num low (old j) (h.history ∙ b.was) h.stands) in
+          record {
+            to = j;
+            more = omega arith;
+            here =
+                writing (next_at h a)
+                (subst₂ (Halved j) (sym a.bus) (sym a.storage)
+                (half_refresh L c e m₀ s₀ wide n few bus_length storage_long j h.lt x.m (place x j) (place_is x same j) x.s hf));
+            moves = λ hi lt. clash (B i) hi b.now;
+            fires = λ f. absurd f;
+            slow = λ f. absurd f;
+          }
+      step (terminal b last h hf) =
+          let a : Ends (reg x.u 1) (set x.m (on_bus c j) (old j)) x.s (turned (B i))
+          = subst (λ (y : Bool). Ends (reg x.u 1) (set x.m (on_bus c j) (old j)) x.s (turned y)) (sym b.now)
+          (in_pair x.u (on_bus c j) ((e + j) % 16777216) (n - j) x.m x.s high num low len (old j) last (h.history ∙ b.was) h.stands) in
+          record {
+            to = suc j;
+            more = omega arith;
+            here = has_ended h.lt hf last a;
+            moves = λ hi lt. clash (B i) hi b.now;
+            fires = λ f. absurd f;
+            slow = λ f. absurd f;
+          }
+      step (over q k cl o) =
+          let a = quiet_step_lem x.u k x.m x.s high (B i) num low in
+          record {
+            to = j;
+            more = omega arith;
+            here = over q a.quiet (subst₂ (Whole n) (sym a.step.bus) (sym a.step.storage) cl) (ap (λ (v : ℕ). v / 128 % 2) (a.step.kept.regs 1 (omega arith)) ∙ o);
+            moves = λ hi lt. absurd (omega arith);
+            fires = λ f. absurd f;
+            slow = λ f. absurd f;
+          }
