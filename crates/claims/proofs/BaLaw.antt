@@ -7,7 +7,6 @@ use mathlib.Core.List.{List}
 use lib.ListN.{length, get_or, set}
 use lib.Bits.{bit_and, bit_or}
 use lib.Dec.{eqb}
-use native.Mathlib.Omega.{arith}
 use native.Mathlib.Decide.{ℕ_discrete}
 use borrow.Author.Tests.{ne_eqb, eqb-true}
 use Rattle.std.specs.Prelude.{Some, None}
@@ -23,7 +22,7 @@ use Rattle.controller.specs.Reu.{reg, with_history}
 use Rattle.controller.specs.BusAction.{decide, repeated, resumed}
 use Rattle.controller.specs.TickDma.{Ticked, ticked}
 use Rattle.controller.specs.Cycle.{run_reu_cycle, cycle_by}
-use Rattle.claims.proofs.CycleLaw.{cycle_computed, swap_state, form, Stands, stands_is, ReadStep, WriteStep, LastStep, Quiet, read_step, write_step, last_step, last_tick}
+use Rattle.claims.proofs.CycleLaw.{cycle_computed, swap_state, form, Stands, stands_is, ReadStep, LastStep, Quiet, read_step, write_step, last_step, last_tick}
 
 -- what a cycle leaves: the bus m, the storage s, COMMAND v as it was, and the swap standing so
 pub record After (v : ℕ) (phi1 : Bool) (m s : List ℕ) (p : SwapPhase) (t f : Bool) (d c e r l : ℕ) (z : Ticked) : Type 0 where

@@ -17,6 +17,8 @@ pub mod Outcome
 pub mod SomeRuns
 pub mod SwapTwice
 pub mod Sessions
+pub mod ScreenStart
+pub mod ScreenRun
 pub mod SwapOnScreen
 pub mod GrantedCycles
 pub mod PassedTop

@@ -155,10 +155,10 @@ module _ (k : Held) (x : St) (e : k ≡ held x) (sound : Sound x.u) (w : ℕ →
   shows : (r : ℕ) → OfBlock r → r ≢ 6 → w r ≡ reg x.u r
   shows r b ne = (value r b).1 ne
 
-  bus_place_lem : (i : ℕ) → on_bus (c64_of x.u) i ≡ bus_place w i
+  pub bus_place_lem : (i : ℕ) → on_bus (c64_of x.u) i ≡ bus_place w i
   bus_place_lem i = omega (arith, shows 2 (omega arith) (omega arith), shows 3 (omega arith) (omega arith))
 
-  storage_place_lem : (i : ℕ) → on_storage (lines x.u.size) (exp_of x.u) i ≡ storage_place size w i
+  pub storage_place_lem : (i : ℕ) → on_storage (lines x.u.size) (exp_of x.u) i ≡ storage_place size w i
   storage_place_lem i =
       sym (same_places (lines x.u.size) (exp_of x.u) (long (w 4) (w 5) (w 6)) (reg x.u 4) (reg x.u 5) (reg x.u 6) (w 6)
       (size_lines x.u.size sound.size).most (value 6 (omega arith)).0 refl

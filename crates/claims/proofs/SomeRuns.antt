@@ -39,10 +39,10 @@ use Rattle.claims.proofs.Swap.{Allowed, idle_high, granted_bit, len_of, SwapFrom
 -- ---- a start
 
 -- a new controller with a size that is set, enabled
-enabled_new : ℕ → Reu
+unfoldable pub enabled_new : ℕ → Reu
 enabled_new size = connected (core_set_size new_reu size)
 
-enabled_sound : (size : ℕ) → is_size size ≡ true → Sound (enabled_new size)
+pub enabled_sound : (size : ℕ) → is_size size ≡ true → Sound (enabled_new size)
 unfolding enabled_new core_set_size
 enabled_sound size h = with_dma_lem (sound_size new_reu size sound_new h) tt
 

@@ -1,17 +1,16 @@
 -- A swap with BA high: how far it is after k granted cycles, and what is exchanged by then.
 use Prim.Native.Nat.{ℕ, suc, ◌+◌, ◌-◌, ◌*◌, ◌/◌, ◌%◌, ◌^◌, ◌<◌, ◌≤◌}
-use native.Mathlib.Nat.{zero-add, mul-suc, mul-le-mul_left, mod-lt, div-add-mod}
-use lib.Pow.{pow_mono, pow_pos}
+use native.Mathlib.Nat.{zero-add}
 use mathlib.Core.Bool.{Bool, true, false, not}
 use mathlib.Core.Path.{◌≡◌, refl, sym, ap, ◌∙◌, subst, subst₂, fun_ext}
 use mathlib.Core.Logic.{◌≢◌}
 use mathlib.Core.List.{List}
-use lib.ListN.{length, get_or, set}
+use lib.ListN.{length, get_or}
 use lib.Bits.{bit_and, bit_or, or_lt, and_le_r}
-use lib.Dec.{eqb, leb}
+use lib.Dec.{eqb}
 use native.Mathlib.Omega.{arith}
 use native.Mathlib.Decide.{ℕ_discrete}
-use borrow.Author.Tests.{ne_eqb, leb-true, leb-false}
+use borrow.Author.Tests.{ne_eqb}
 use Rattle.controller.specs.declared.reu.Reu.{Reu}
 use Rattle.std.specs.Prelude.{None}
 use Rattle.transfer.specs.declared.timing.ReuBusAction.{ReuBusAction}
@@ -22,7 +21,7 @@ use Rattle.controller.specs.Reu.{reg, with_dma}
 use Rattle.controller.specs.Registers.{read_register, write_register}
 use Rattle.transfer.specs.Dma.{length_of}
 use Rattle.transfer.specs.Memory.{lines}
-use Rattle.transfer.proofs.Sizes.{Lines, size_lines, fold_fold}
+use Rattle.transfer.proofs.Sizes.{Lines, size_lines}
 use Rattle.controller.specs.BusAction.{bus_action as core_bus_action}
 use Rattle.controller.specs.TickDma.{Ticked}
 use Rattle.controller.specs.Cycle.{run_reu_cycle}

@@ -1,0 +1,292 @@
+-- A swap's run, call by call: how many bytes are done before each call, what holds once it has ended, and that it ends.
+use Prim.Native.Nat.{ℕ, zero, suc, ◌+◌, ◌-◌, ◌*◌, ◌/◌, ◌%◌, ◌<◌, ◌≤◌}
+use mathlib.Core.Bool.{Bool, true, false}
+use mathlib.Core.Path.{◌≡◌, refl, sym, ap, ◌∙◌, subst, subst₂}
+use mathlib.Core.Logic.{◌⊎◌, inl, inr}
+use lib.ListN.{length}
+use native.Mathlib.Omega.{arith}
+use native.Mathlib.Decide.{ℕ_discrete}
+use borrow.Author.Tests.{le-leb}
+use Rattle.transfer.specs.Bytes.{bit}
+use Rattle.transfer.specs.Memory.{lines}
+use Rattle.transfer.specs.declared.dma.SwapPhase.TheVariants.{ReadC64}
+use Rattle.controller.specs.Reu.{reg}
+use Rattle.reu.specs.Exports.{flag}
+use Rattle.claims.specs.Calls.{Held, Kind}
+use Rattle.claims.specs.SwapTwice.{byte, size_set, ShownAll, Exchanged, Ended}
+use Rattle.claims.specs.SwapOnScreen.{SwapStart, Told, held_at, Runs, high_at, TwoLow, left, occurrences, screen}
+use Rattle.claims.proofs.CycleLaw.{Stands}
+use Rattle.claims.proofs.Exchange.{Exch, exch_zero, exch_count}
+use Rattle.claims.proofs.Places.{on_bus, on_storage, bus_apart, storage_apart, fits}
+use Rattle.claims.proofs.States.{St, Ready}
+use Rattle.claims.proofs.Look.{one_bit, reg_byte, reg_ended, left_none, left_some, size_is}
+use Rattle.claims.proofs.Swap.{c64_of, exp_of, len_of, few, one_byte, connected_lines, wide, within, storage_long, small_word}
+use Rattle.claims.proofs.BaSwap.{previous, Going, Progress, reading, Live, Over, view, IsWriting, Stepped, step}
+use Rattle.claims.proofs.Outcome.{shown_block}
+use Rattle.claims.proofs.ScreenStart.{opens, opens_ready, opens_is, first, began, first_going, state, state_ready, state_size, state_is}
+
+pub clash : {A : Type 0} (b : Bool) → b ≡ true → b ≡ false → A
+clash b p q = absurd (let z : ◌≡◌ {A = ℕ} 0 1 = cc in omega arith)
+
+module _ (k : Held) (d : Kind) (st : SwapStart k d) (f : ℕ → Told) (tl : TwoLow k d f) where
+  abbrev x : St
+  x = opens k d st
+
+  abbrev r : Ready x
+  r = opens_ready k d st
+
+  -- the block, and what BA was before the first call
+  abbrev L : ℕ
+  L = connected_lines x r
+
+  abbrev c : ℕ
+  c = c64_of x.u
+
+  abbrev e : ℕ
+  e = exp_of x.u
+
+  abbrev n : ℕ
+  n = len_of x.u
+
+  abbrev w₀ : Bool
+  w₀ = (first k d st).u.ba_was_high
+
+  abbrev at : ℕ → St
+  at = state k d st f
+
+  abbrev ready : (i : ℕ) → Ready (at i)
+  ready = state_ready k d st f
+
+  abbrev Swapping : ℕ → ℕ → St → Type 0
+  Swapping = Progress L (wide x r) (within x r) c e n (few x r) x.m x.s r.bus.size (storage_long x r) w₀ (high_at f)
+
+  abbrev Seen : ℕ → St → Type 0
+  Seen j y =
+      Live L (wide x r) (within x r) c e n (few x r) x.m x.s r.bus.size (storage_long x r) w₀ (high_at f) j y
+      ⊎ Over L (wide x r) (within x r) c e n (few x r) x.m x.s r.bus.size (storage_long x r) w₀ (high_at f) j y
+
+  abbrev Turned : (j i : ℕ) (y : St) → Swapping j i y → St → Type 0
+  Turned j i y p z =
+      Stepped L (wide x r) (within x r) c e n (few x r) x.m x.s r.bus.size (storage_long x r) w₀ (high_at f) p z
+
+  abbrev WritesNext : (j i : ℕ) (y : St) → Swapping j i y → Type 0
+  WritesNext j i y p =
+      IsWriting L (wide x r) (within x r) c e n (few x r) x.m x.s r.bus.size (storage_long x r) w₀ (high_at f) p
+
+  -- how many bytes are done before call i, and how the swap stands
+  record Reached (i : ℕ) : Type 0 where
+    pub j : ℕ
+    pub here : Swapping j i (at i)
+
+  command_is : (i : ℕ) → byte (held_at k d f i) 1 ≡ reg (at i).u 1
+  command_is i = ap (λ (h : Held). byte h 1) (state_is k d st f i) ∙ reg_byte (at i) (ready i).sound 1 (omega arith)
+
+  live_runs : (i : ℕ) → Going (at i) → Runs (held_at k d f i)
+  live_runs i g = ap (λ (v : ℕ). bit v 7) (command_is i) ∙ one_bit (reg (at i).u 1) 7 g
+
+  previous_high : (i b : ℕ) → previous w₀ (high_at f) i ≡ true → i ≡ suc b → high_at f b ≡ true
+  previous_high zero b p q = absurd (omega arith)
+  previous_high (suc i) b p q = let s : i ≡ b = omega arith in subst (λ (y : ℕ). high_at f y ≡ true) s p
+
+  -- a fall while the command runs is followed by another low call
+  second_low : (i : ℕ) → Going (at i) → previous w₀ (high_at f) i ≡ true → high_at f i ≡ false → high_at f (suc i) ≡ false
+  second_low i g p b = go (high_at f (suc i)) refl
+    where
+      low : (y : ℕ) → i ≤ y → y < i + 1 → high_at f y ≡ false
+      low y lo hi = let s : i ≡ y = omega arith in subst (λ (z : ℕ). high_at f z ≡ false) s b
+
+      next : suc i ≡ i + 1
+      next = omega arith
+
+      go : (h : Bool) → high_at f (suc i) ≡ h → high_at f (suc i) ≡ false
+      go false s = s
+      go true s =
+          let two =
+          tl i 1
+          (record { some = omega arith; low = low; before = λ y t. previous_high i y p t; behind = subst (λ (y : ℕ). high_at f y ≡ true) next s })
+          (i, omega arith, omega arith, live_runs i g) in
+          absurd (omega (arith, two))
+
+  turned : (i : ℕ) (p : Reached i) → Turned p.j i (at i) p.here (at (suc i))
+  unfolding state
+  turned i p =
+      step L (wide x r) (within x r) c e n (few x r) x.m x.s r.bus.size (storage_long x r) w₀ (high_at f) p.j i (at i)
+      (ap lines (state_size k d st f i)) (second_low i) (ready i).sound.regs.len (flag (f i).high) (flag (f i).low) (f i).number p.here
+
+  first_reached : Reached 0
+  unfolding state first
+  first_reached =
+      let b = began k d st in
+      let small : c < 65536 = small_word x r 2 3 in
+      let small' : reg x.u 4 + 256 * reg x.u 5 < 65536 = small_word x r 4 5 in
+      let bank : reg x.u 6 < 256 = (r.sound.regs.fits 6).byte in
+      let c0 : c ≡ on_bus c 0 = omega arith in
+      let e0 : e ≡ (e + 0) % 16777216 = omega arith in
+      let n0 : n ≡ n - 0 = omega arith in
+      record {
+        j = 0;
+        here =
+            reading b.begun.reading.latch
+            (record {
+              lt = omega (arith, one_byte x r);
+              history = refl;
+              going = first_going k d st;
+              stands =
+                  subst (λ (q : ℕ). Stands (at 0).u ReadC64 false false 0 (on_bus c 0) ((e + 0) % 16777216) q b.begun.reading.latch) n0
+                  (subst₂ (λ (q q' : ℕ). Stands (at 0).u ReadC64 false false 0 q q' n b.begun.reading.latch) c0 e0 b.begun.reading.stands);
+            })
+            (subst₂ (Exch (on_bus c) (on_storage L e) 0 x.m x.s) (sym b.bus) (sym b.storage) (exch_zero (on_bus c) (on_storage L e) x.m x.s));
+      }
+
+  reach : (i : ℕ) → Reached i
+  reach zero = first_reached
+  reach (suc i) = record { j = (turned i (reach i)).to; here = (turned i (reach i)).here }
+
+  -- the bytes done before call i
+  abbrev bytes : ℕ → ℕ
+  bytes i = (reach i).j
+
+  seen : (i : ℕ) → Seen (bytes i) (at i)
+  seen i =
+      view L (wide x r) (within x r) c e n (few x r) x.m x.s r.bus.size (storage_long x r) w₀ (high_at f)
+      (bytes i) i (at i) (reach i).here
+
+  -- ---- COMMAND's bit 7, and the bytes that are left
+
+  over_ended : (i : ℕ) → reg (at i).u 1 / 128 % 2 ≡ 0 → Ended (held_at k d f i)
+  over_ended i o = subst Ended (sym (state_is k d st f i)) (reg_ended (at i) (ready i).sound o)
+
+  runs_few : (i : ℕ) → Runs (held_at k d f i) → bytes i < n
+  runs_few i r = go (seen i)
+    where
+      go : Seen (bytes i) (at i) → bytes i < n
+      go (inl v) = v.lt
+      go (inr v) = clash _ r (over_ended i v.ended)
+
+  few_runs : (i : ℕ) → bytes i < n → Runs (held_at k d f i)
+  few_runs i h = go (seen i)
+    where
+      go : Seen (bytes i) (at i) → Runs (held_at k d f i)
+      go (inl v) = live_runs i v.going
+      go (inr v) = absurd (omega (arith, h, v.total))
+
+  all_ended : (i : ℕ) → n ≤ bytes i → Ended (held_at k d f i)
+  all_ended i h = go (seen i)
+    where
+      go : Seen (bytes i) (at i) → Ended (held_at k d f i)
+      go (inl v) = absurd (omega (arith, h, v.lt))
+      go (inr v) = over_ended i v.ended
+
+  counted : (i : ℕ) → (bytes i ≤ n) × (left (held_at k d f i) ≡ n - bytes i)
+  counted i = go (seen i)
+    where
+      go : Seen (bytes i) (at i) → (bytes i ≤ n) × (left (held_at k d f i) ≡ n - bytes i)
+      go (inl v) = (
+        omega (arith, v.lt),
+        ap left (state_is k d st f i) ∙ left_some (at i) (ready i).sound v.state v.transfer ∙ v.remaining,
+      )
+      go (inr v) = (
+        omega (arith, v.total),
+        ap left (state_is k d st f i) ∙ left_none (at i) (ready i).sound v.quiet.idle ∙ omega (arith, v.total),
+      )
+
+  -- ---- when it has ended
+
+  pub exchanged : (i : ℕ) → Ended (held_at k d f i)
+      → Exch (on_bus c) (on_storage L e) n x.m x.s (held_at k d f i).bus (held_at k d f i).storage
+  exchanged i en =
+      subst (λ (h : Held). Exch (on_bus c) (on_storage L e) n x.m x.s h.bus h.storage) (sym (state_is k d st f i)) (go (seen i))
+    where
+      go : Seen (bytes i) (at i) → Exch (on_bus c) (on_storage L e) n x.m x.s (at i).m (at i).s
+      go (inl v) = clash _ (live_runs i v.going) en
+      go (inr v) = v.exch
+
+  pub shown_exchanged : (w : ℕ → ℕ) → ShownAll k w → (i : ℕ) → Ended (held_at k d f i) → Exchanged w k (held_at k d f i)
+  unfolding opens
+  shown_exchanged w shown i en =
+      shown_block k x (sym (opens_is k d st)) r.sound w shown (size_set k) (sym (size_is k st.can)) k (held_at k d f i) refl (exchanged i en)
+
+  pub same_count : (i v : ℕ) → Ended (held_at k d f i) → occurrences v (held_at k d f i) ≡ occurrences v k
+  unfolding opens
+  same_count i v en =
+      exch_count (on_bus c) (on_storage L e) v n x.m x.s (λ j h. in_bus j) (λ j h. fits L c e x.m x.s (wide x r) n (few x r) r.bus.size (storage_long x r) j)
+      (λ j j' h l. bus_apart c j j' h (omega (arith, l, few x r))) (λ j j' h l. storage_apart L e j j' (wide x r) h (omega (arith, l, few x r)))
+      (held_at k d f i).bus (held_at k d f i).storage (exchanged i en)
+    where
+      in_bus : (j : ℕ) → on_bus c j < length x.m
+      in_bus j = omega (arith, r.bus.size)
+
+  -- ---- two high calls in a row complete a byte
+
+  more : (i : ℕ) → bytes i ≤ bytes (suc i)
+  unfolding reach
+  more i = (turned i (reach i)).more
+
+  later : (i t : ℕ) → bytes i ≤ bytes (t + i)
+  later i zero = let q : i ≡ 0 + i = omega arith in subst (λ (y : ℕ). bytes i ≤ bytes y) q (omega arith)
+  later i (suc t) =
+      let q : suc (t + i) ≡ suc t + i = omega arith in
+      subst (λ (y : ℕ). bytes i ≤ bytes y) q (omega (arith, later i t, more (t + i)))
+
+  upwards : (a b : ℕ) → a ≤ b → bytes a ≤ bytes b
+  upwards a b h = let q : b - a + a ≡ b = omega arith in subst (λ (y : ℕ). bytes a ≤ bytes y) q (later a (b - a))
+
+  two_high : (i : ℕ) → bytes i < n → high_at f i ≡ true → high_at f (suc i) ≡ true → bytes i < bytes (suc (suc i))
+  unfolding reach
+  two_high i lt h h' = go ((turned i (reach i)).moves h lt)
+    where
+      go : (bytes i < (turned i (reach i)).to) ⊎ WritesNext (turned i (reach i)).to (suc i) (at (suc i)) (turned i (reach i)).here
+          → bytes i < bytes (suc (suc i))
+      go (inl l) = omega (arith, l, more (suc i))
+      go (inr w) = omega (arith, (turned i (reach i)).more, (turned (suc i) (reach (suc i))).fires w h h')
+
+  pub completes : (a t : ℕ) → 2 ≤ t → Runs (held_at k d f a) → ((i : ℕ) → a ≤ i → i < a + t → high_at f i ≡ true)
+      → left (held_at k d f (a + t)) < left (held_at k d f a)
+  completes a t two r hi =
+      let lt = runs_few a r in
+      let b = two_high a lt (hi a (omega arith) (omega arith)) (hi (suc a) (omega arith) (omega arith)) in
+      omega (arith, lt, b, upwards (suc (suc a)) (a + t) (omega arith), (counted a).1, (counted (a + t)).1, (counted (a + t)).0)
+
+  -- ---- it ends
+
+  one_more : (y b : ℕ) → b ≤ n → b - 1 ≤ bytes y → high_at f y ≡ true → high_at f (suc y) ≡ true → b ≤ bytes (suc (suc y))
+  one_more y b all h hi hi' = go (ℕ_discrete (bytes y) n)
+    where
+      go : Dec (bytes y ≡ n) → b ≤ bytes (suc (suc y))
+      go (yes q) = omega (arith, all, q, more y, more (suc y))
+      go (no ne) = let lt : bytes y < n = omega (arith, (counted y).0, ne) in omega (arith, h, two_high y lt hi hi')
+
+  -- 2t high calls from call a on complete t bytes, or all that are left
+  high_run : (a t : ℕ) → ((i : ℕ) → a ≤ i → i < a + 2 * t → high_at f i ≡ true) → (b : ℕ) → b ≤ n → b ≤ bytes a + t → b ≤ bytes (a + 2 * t)
+  high_run a zero hi b all h = let q : a ≡ a + 2 * 0 = omega arith in subst (λ (y : ℕ). b ≤ bytes y) q (omega arith)
+  high_run a (suc t) hi b all h =
+      let before : b - 1 ≤ bytes (a + 2 * t) = high_run a t (λ i lo lt. hi i lo (omega arith)) (b - 1) (omega arith) (omega arith) in
+      let next : suc (suc (a + 2 * t)) ≡ a + 2 * suc t = omega arith in
+      subst (λ (z : ℕ). b ≤ bytes z) next
+      (one_more (a + 2 * t) b all before (hi (a + 2 * t) (omega arith) (omega arith)) (hi (suc (a + 2 * t)) (omega arith) (omega arith)))
+
+  pub ends_high : (a : ℕ) → ((i : ℕ) → a ≤ i → i < a + 2 * n → high_at f i ≡ true) → Ended (held_at k d f (a + 2 * n))
+  ends_high a hi = all_ended (a + 2 * n) (high_run a n hi n (omega arith) (omega arith))
+
+  -- on a screen, from a call s on that is the first high one of a stretch
+  module _ (o s : ℕ) (first : (o + s) % 504 ≡ 40) (on : (i : ℕ) → high_at f i ≡ screen o i) where
+    high_there : (q i : ℕ) → s + 504 * q ≤ i → i < s + 504 * q + 464 → high_at f i ≡ true
+    high_there q i lo hi = on i ∙ le-leb 40 ((o + i) % 504) (omega arith)
+
+    screens : (q b : ℕ) → b ≤ n → b ≤ 232 * q → b ≤ bytes (s + 504 * q)
+    screens zero b all h = omega arith
+    screens (suc q) b all h =
+        let before : b - 232 ≤ bytes (s + 504 * q) = screens q (b - 232) (omega arith) (omega arith) in
+        let run : b ≤ bytes (s + 504 * q + 2 * 232) = high_run (s + 504 * q) 232 (high_there q) b all (omega arith) in
+        omega (arith, run, upwards (s + 504 * q + 2 * 232) (s + 504 * suc q) (omega arith))
+
+    -- whatever is left over is done in one time more
+    pub ends_there : (t : ℕ) → s + 504 * (n / 232 + 1) ≤ t → Ended (held_at k d f t)
+    ends_there t h =
+        let all : n ≤ bytes (s + 504 * (n / 232 + 1)) = screens (n / 232 + 1) n (omega arith) (omega arith) in
+        all_ended t (omega (arith, all, upwards (s + 504 * (n / 232 + 1)) t h))
+
+  -- the first call completes no byte, so a command of any length runs on
+  pub second_runs : Runs (held_at k d f 1)
+  unfolding reach first_reached
+  second_runs = few_runs 1 (omega (arith, (turned 0 (reach 0)).slow tt, one_byte x r))
