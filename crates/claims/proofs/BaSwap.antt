@@ -6,6 +6,7 @@ use mathlib.Core.Logic.{◌≢◌, ◌⊎◌, inl, inr}
 use mathlib.Core.List.{List}
 use lib.ListN.{length, get_or, set}
 use native.Mathlib.Omega.{arith}
+use borrow.Author.Tests.{both_ways}
 use Rattle.std.specs.Prelude.{Some}
 use Rattle.transfer.specs.declared.dma.DmaState.{DmaState}
 use Rattle.transfer.specs.declared.dma.SwapPhase.{SwapPhase}
@@ -16,7 +17,7 @@ use Rattle.controller.specs.TickDma.{Ticked}
 use Rattle.controller.specs.Cycle.{run_reu_cycle}
 use Rattle.claims.proofs.CycleLaw.{Quiet, Stands, swap_state, quiet_step_lem}
 use Rattle.claims.proofs.BaLaw.{After, Ends, Reads, reads, waits, delays, pairs, Writes, writes, finishes, again, stays, refreshes, gives_up, before_read, delayed_two, delayed_one, before_write, in_pair, refreshed}
-use Rattle.claims.proofs.Places.{on_bus, on_storage, next_bus, next_storage, folded, latched, Clean, Half, clean_latch, clean_read, half_back, half_again, again_latch, half_refresh, half_write}
+use Rattle.claims.proofs.Places.{next_bus, next_storage, Block, bus_at, latched, Clean, Half, folds, folds_to, clean_latch, clean_read, half_back, half_again, again_latch, half_refresh, half_write}
 use Rattle.claims.proofs.States.{St}
 use Rattle.claims.proofs.Swap.{after_tick, command_ends}
 
@@ -28,32 +29,15 @@ previous w B (suc i) = B i
 abbrev pub Going : St → Type 0
 Going x = reg x.u 1 / 128 % 2 ≡ 1
 
--- L address lines; the block and the memories at the start; what BA was before it, and is at each call
-module _ (L : ℕ) (wide : 16 ≤ L) (within : L ≤ 24) (c e n : ℕ) (few : n ≤ 65536) (m₀ s₀ : List ℕ)
-    (bus_length : length m₀ ≡ 65536) (storage_long : length s₀ ≡ 2 ^ L) (w₀ : Bool) (B : ℕ → Bool) where
-  abbrev old : ℕ → ℕ
-  old = latched L c e m₀ s₀
-
-  abbrev Whole : ℕ → List ℕ → List ℕ → Type 0
-  Whole = Clean L c e m₀ s₀
-
-  abbrev Halved : ℕ → List ℕ → List ℕ → Type 0
-  Halved = Half L c e m₀ s₀
-
-  -- where the controller folds byte j to
-  abbrev place : St → ℕ → ℕ
-  place x j = (e + j) % 16777216 % 2 ^ lines x.u.size
-
-  place_is : (x : St) → lines x.u.size ≡ L → (j : ℕ) → place x j ≡ on_storage L e j
-  place_is x same j = ap (λ (k : ℕ). (e + j) % 16777216 % 2 ^ k) same ∙ folded L e j within
-
+-- the block; what BA was before the start, and is at each call
+module _ (block : Block) (w₀ : Bool) (B : ℕ → Bool) where
   -- ---- before call i, with j bytes done
 
   pub record At (j i : ℕ) (x : St) (p : SwapPhase) (t f : Bool) (d l : ℕ) : Type 0 where
-    pub lt : j < n
+    pub lt : j < block.n
     pub history : x.u.ba_was_high ≡ previous w₀ B i
     pub going : Going x
-    pub stands : Stands x.u p t f d (on_bus c j) ((e + j) % 16777216) (n - j) l
+    pub stands : Stands x.u p t f d (bus_at block j) ((block.e + j) % 16777216) (block.n - j) l
 
   -- after a fall BA stays low for this call
   pub record Low (i : ℕ) : Type 0 where
@@ -61,26 +45,26 @@ module _ (L : ℕ) (wide : 16 ≤ L) (within : L ≤ 24) (c e n : ℕ) (few : n 
     pub was : previous w₀ B i ≡ false
 
   pub data Progress (j i : ℕ) (x : St) : Type 0 where
-    reading : (l : ℕ) → At j i x ReadC64 false false 0 l → Whole j x.m x.s → Progress j i x
-    delayed_by_two : (l : ℕ) → Low i → At j i x ReadC64 false false 2 l → Whole j x.m x.s → Progress j i x
-    delayed_by_one : (l : ℕ) → At j i x ReadC64 false false 1 l → Whole j x.m x.s → Progress j i x
-    writing : At j i x WriteC64 false false 0 (old j) → Halved j x.m x.s → Progress j i x
-    refreshing : Low i → At j i x WriteC64 false true 1 (old j) → Halved j x.m x.s → Progress j i x
-    terminal : Low i → n - j ≡ 1 → At j i x WriteC64 true false 0 (old j) → Halved j x.m x.s → Progress j i x
-    over : j ≡ n → Quiet x.u → Whole n x.m x.s → reg x.u 1 / 128 % 2 ≡ 0 → Progress j i x
+    reading : (l : ℕ) → At j i x ReadC64 false false 0 l → Clean block j x.m x.s → Progress j i x
+    delayed_by_two : (l : ℕ) → Low i → At j i x ReadC64 false false 2 l → Clean block j x.m x.s → Progress j i x
+    delayed_by_one : (l : ℕ) → At j i x ReadC64 false false 1 l → Clean block j x.m x.s → Progress j i x
+    writing : At j i x WriteC64 false false 0 (latched block j) → Half block j x.m x.s → Progress j i x
+    refreshing : Low i → At j i x WriteC64 false true 1 (latched block j) → Half block j x.m x.s → Progress j i x
+    terminal : Low i → block.n - j ≡ 1 → At j i x WriteC64 true false 0 (latched block j) → Half block j x.m x.s → Progress j i x
+    over : j ≡ block.n → Quiet x.u → Clean block block.n x.m x.s → reg x.u 1 / 128 % 2 ≡ 0 → Progress j i x
 
   -- it runs, or it is over
   pub record Live (j : ℕ) (x : St) : Type 0 where
-    pub lt : j < n
+    pub lt : j < block.n
     pub going : Going x
     pub state : DmaState
     pub transfer : x.u.dma ≡ Some state
-    pub remaining : state.remaining ≡ n - j
+    pub remaining : state.remaining ≡ block.n - j
 
   pub record Over (j : ℕ) (x : St) : Type 0 where
-    pub total : j ≡ n
+    pub total : j ≡ block.n
     pub quiet : Quiet x.u
-    pub exch : Whole n x.m x.s
+    pub exch : Clean block block.n x.m x.s
     pub ended : reg x.u 1 / 128 % 2 ≡ 0
 
   live : {j i : ℕ} {x : St} {p : SwapPhase} {t f : Bool} {d l : ℕ} → At j i x p t f d l → Live j x
@@ -88,7 +72,7 @@ module _ (L : ℕ) (wide : 16 ≤ L) (within : L ≤ 24) (c e n : ℕ) (few : n 
       record {
         lt = a.lt;
         going = a.going;
-        state = swap_state p (on_bus c j) ((e + j) % 16777216) (n - j) l a.stands.auto a.stands.one a.stands.odd;
+        state = swap_state p (bus_at block j) ((block.e + j) % 16777216) (block.n - j) l a.stands.auto a.stands.one a.stands.odd;
         transfer = a.stands.transfer;
         remaining = refl;
       }
@@ -128,101 +112,92 @@ module _ (L : ℕ) (wide : 16 ≤ L) (within : L ≤ 24) (c e n : ℕ) (few : n 
     pub more : j ≤ to
     pub here : Progress to (suc i) y
     -- a high call completes a byte, or a write comes next
-    pub moves : B i ≡ true → j < n → (j < to) ⊎ IsWriting here
+    pub moves : B i ≡ true → j < block.n → (j < to) ⊎ IsWriting here
     -- a write that comes next is done if BA stays high
     pub fires : IsWriting p → previous w₀ B i ≡ true → B i ≡ true → j < to
     -- a read completes no byte
     pub slow : IsReading p → to ≡ j
 
-  clash : {A : Type 0} (b : Bool) → b ≡ true → b ≡ false → A
-  clash b p q = absurd (let z : ◌≡◌ {A = ℕ} 0 1 = cc in omega arith)
+  -- a low call that completes no byte; a call that reads; one that completes a byte
+  waited : {j i : ℕ} {x y : St} {p : Progress j i x} → B i ≡ false → Progress j (suc i) y → Stepped p y
+  waited {j} {i} b here =
+      record {
+        to = j;
+        more = omega arith;
+        here = here;
+        moves = λ hi lt. absurd (both_ways (B i) b hi);
+        fires = λ f w hi. absurd (both_ways (B i) b hi);
+        slow = λ f. refl;
+      }
 
-  module _ (j i : ℕ) (x : St) (same : lines x.u.size ≡ L) where
+  read_now : {j i : ℕ} {x y : St} {p : Progress j i x} → (IsWriting p → ⊥) → At j (suc i) y WriteC64 false false 0 (latched block j) × Half block j y.m y.s → Stepped p y
+  read_now {j} not_write w =
+      record { to = j; more = omega arith; here = writing w.0 w.1; moves = λ hi lt. inr tt; fires = λ f. absurd (not_write f); slow = λ f. refl }
+
+  completed : {j i : ℕ} {x y : St} {p : Progress j i x} → (IsReading p → ⊥) → Progress (suc j) (suc i) y → Stepped p y
+  completed {j} not_read here =
+      record { to = suc j; more = omega arith; here = here; moves = λ hi lt. inl (omega arith); fires = λ f w hi. omega arith; slow = λ f. absurd (not_read f) }
+
+  module _ (j i : ℕ) (x : St) (same : lines x.u.size ≡ block.L) where
     next_at : {p p' : SwapPhase} {t f t' f' : Bool} {d d' l l' : ℕ} {m s : List ℕ} {z : Ticked} → At j i x p t f d l
-        → After (reg x.u 1) (B i) m s p' t' f' d' (on_bus c j) ((e + j) % 16777216) (n - j) l' z → At j (suc i) (after_tick z) p' t' f' d' l'
+        → After (reg x.u 1) (B i) m s p' t' f' d' (bus_at block j) ((block.e + j) % 16777216) (block.n - j) l' z → At j (suc i) (after_tick z) p' t' f' d' l'
     next_at h a =
         record { lt = h.lt; history = a.history; going = ap (λ (v : ℕ). v / 128 % 2) a.command ∙ h.going; stands = a.stands }
 
     -- the read is done
-    has_read : {p : SwapPhase} {t f t' : Bool} {d l : ℕ} {z : Ticked} → At j i x p t f d l → Whole j x.m x.s
-        → After (reg x.u 1) (B i) x.m (set x.s (place x j) (get_or x.m (on_bus c j) 0)) WriteC64 t' false 0 (on_bus c j) ((e + j) % 16777216) (n - j) (get_or x.s (place x j) 0) z
-        → At j (suc i) (after_tick z) WriteC64 t' false 0 (old j) × Halved j z.1 z.2
+    has_read : {p : SwapPhase} {t f t' : Bool} {d l : ℕ} {z : Ticked} → At j i x p t f d l → Clean block j x.m x.s
+        → After (reg x.u 1) (B i) x.m (set x.s (folds block x.u.size j) (get_or x.m (bus_at block j) 0)) WriteC64 t' false 0 (bus_at block j) ((block.e + j) % 16777216) (block.n - j) (get_or x.s (folds block x.u.size j) 0) z
+        → At j (suc i) (after_tick z) WriteC64 t' false 0 (latched block j) × Half block j z.1 z.2
     has_read {t' = t'} {z = z} h cl a = (
       subst (λ (q : ℕ). At j (suc i) (after_tick z) WriteC64 t' false 0 q)
-          (clean_latch L c e m₀ s₀ wide n few bus_length storage_long j h.lt x.m (place x j) (place_is x same j) x.s cl) (next_at h a),
-      subst₂ (Halved j) (sym a.bus) (sym a.storage)
-          (clean_read L c e m₀ s₀ wide n few bus_length storage_long j h.lt x.m (place x j) (place_is x same j) x.s cl),
+          (clean_latch block j h.lt x.m (folds block x.u.size j) (folds_to block x.u.size same j) x.s cl) (next_at h a),
+      subst₂ (Half block j) (sym a.bus) (sym a.storage)
+          (clean_read block j h.lt x.m (folds block x.u.size j) (folds_to block x.u.size same j) x.s cl),
     )
 
     -- the byte is done
-    has_written : {l : ℕ} {z : Ticked} → At j i x WriteC64 false false 0 (old j) → Halved j x.m x.s → n - j ≢ 1
-        → After (reg x.u 1) (B i) (set x.m (on_bus c j) (old j)) x.s ReadC64 false false 0 ((on_bus c j + 1) % 65536) (((e + j) % 16777216 + 1) % 16777216) (n - j - 1) l z
+    has_written : {l : ℕ} {z : Ticked} → At j i x WriteC64 false false 0 (latched block j) → Half block j x.m x.s → block.n - j ≢ 1
+        → After (reg x.u 1) (B i) (set x.m (bus_at block j) (latched block j)) x.s ReadC64 false false 0 ((bus_at block j + 1) % 65536) (((block.e + j) % 16777216 + 1) % 16777216) (block.n - j - 1) l z
         → Progress (suc j) (suc i) (after_tick z)
     has_written {l} {z} h hf more a =
-        let left : n - j - 1 ≡ n - suc j = omega arith in
+        let left : block.n - j - 1 ≡ block.n - suc j = omega arith in
         reading l
         (record {
           lt = omega (arith, h.lt);
           history = a.history;
           going = ap (λ (v : ℕ). v / 128 % 2) a.command ∙ h.going;
           stands =
-              subst (λ (q : ℕ). Stands z.0.reu ReadC64 false false 0 (on_bus c (suc j)) ((e + suc j) % 16777216) q l) left
-              (subst₂ (λ (q q' : ℕ). Stands z.0.reu ReadC64 false false 0 q q' (n - j - 1) l) (next_bus c j) (next_storage e j) a.stands);
+              subst (λ (q : ℕ). Stands z.0.reu ReadC64 false false 0 (bus_at block (suc j)) ((block.e + suc j) % 16777216) q l) left
+              (subst₂ (λ (q q' : ℕ). Stands z.0.reu ReadC64 false false 0 q q' (block.n - j - 1) l) (next_bus block.c j) (next_storage block.e j) a.stands);
         })
-        (subst₂ (Whole (suc j)) (sym a.bus) (sym a.storage) (half_write L c e m₀ s₀ wide n few bus_length storage_long j h.lt x.m x.s hf))
+        (subst₂ (Clean block (suc j)) (sym a.bus) (sym a.storage) (half_write block j h.lt x.m x.s hf))
 
-    has_ended : {z : Ticked} → j < n → Halved j x.m x.s → n - j ≡ 1 → Ends (reg x.u 1) (set x.m (on_bus c j) (old j)) x.s z
+    has_ended : {z : Ticked} → j < block.n → Half block j x.m x.s → block.n - j ≡ 1 → Ends (reg x.u 1) (set x.m (bus_at block j) (latched block j)) x.s z
         → Progress (suc j) (suc i) (after_tick z)
     has_ended {z} lt hf last a =
-        let all : suc j ≡ n = omega arith in
+        let all : suc j ≡ block.n = omega arith in
         over all a.quiet
-        (subst (λ (q : ℕ). Whole q z.1 z.2) all
-        (subst₂ (Whole (suc j)) (sym a.bus) (sym a.storage) (half_write L c e m₀ s₀ wide n few bus_length storage_long j lt x.m x.s hf)))
+        (subst (λ (q : ℕ). Clean block q z.1 z.2) all
+        (subst₂ (Clean block (suc j)) (sym a.bus) (sym a.storage) (half_write block j lt x.m x.s hf)))
         (ap (λ (v : ℕ). v / 128 % 2) a.command ∙ command_ends (reg x.u 1))
 
     module _ (two : Going x → previous w₀ B i ≡ true → B i ≡ false → B (suc i) ≡ false) (len : length x.u.regs ≡ 11) (high low : Bool) (num : ℕ) where
-      from_reading : {l : ℕ} (h : At j i x ReadC64 false false 0 l) (cl : Whole j x.m x.s) (z : Ticked)
-          → Reads x.u (on_bus c j) ((e + j) % 16777216) (n - j) x.m x.s high num low (previous w₀ B i) (B i) l z
+      from_reading : {l : ℕ} (h : At j i x ReadC64 false false 0 l) (cl : Clean block j x.m x.s) (z : Ticked)
+          → Reads x.u (bus_at block j) ((block.e + j) % 16777216) (block.n - j) x.m x.s high num low (previous w₀ B i) (B i) l z
           → Stepped (reading l h cl) (after_tick z)
-      from_reading h cl z (reads b a) =
-          let w = has_read h cl a in
-          record { to = j; more = omega arith; here = writing w.0 w.1; moves = λ hi lt. inr tt; fires = λ f. absurd f; slow = λ f. refl }
-      from_reading {l} h cl z (waits b a) =
-          record {
-            to = j;
-            more = omega arith;
-            here = reading l (next_at h a) (subst₂ (Whole j) (sym a.bus) (sym a.storage) cl);
-            moves = λ hi lt. clash (B i) hi b;
-            fires = λ f. absurd f;
-            slow = λ f. refl;
-          }
+      from_reading h cl z (reads b a) = read_now (λ f. f) (has_read h cl a)
+      from_reading {l} h cl z (waits b a) = waited b (reading l (next_at h a) (subst₂ (Clean block j) (sym a.bus) (sym a.storage) cl))
       from_reading {l} h cl z (delays w b a) =
-          record {
-            to = j;
-            more = omega arith;
-            here = delayed_by_two l (record { now = two h.going w b; was = b }) (next_at h a) (subst₂ (Whole j) (sym a.bus) (sym a.storage) cl);
-            moves = λ hi lt. clash (B i) hi b;
-            fires = λ f. absurd f;
-            slow = λ f. refl;
-          }
+          waited b (delayed_by_two l (record { now = two h.going w b; was = b }) (next_at h a) (subst₂ (Clean block j) (sym a.bus) (sym a.storage) cl))
       from_reading h cl z (pairs w b last a) =
           let r = has_read h cl a in
-          record {
-            to = j;
-            more = omega arith;
-            here = terminal (record { now = two h.going w b; was = b }) last r.0 r.1;
-            moves = λ hi lt. clash (B i) hi b;
-            fires = λ f. absurd f;
-            slow = λ f. refl;
-          }
+          waited b (terminal (record { now = two h.going w b; was = b }) last r.0 r.1)
 
-      from_writing : (h : At j i x WriteC64 false false 0 (old j)) (hf : Halved j x.m x.s) (z : Ticked)
-          → Writes x.u (on_bus c j) ((e + j) % 16777216) (n - j) x.m x.s high num low (previous w₀ B i) (B i) (old j) z
+      from_writing : (h : At j i x WriteC64 false false 0 (latched block j)) (hf : Half block j x.m x.s) (z : Ticked)
+          → Writes x.u (bus_at block j) ((block.e + j) % 16777216) (block.n - j) x.m x.s high num low (previous w₀ B i) (B i) (latched block j) z
           → Stepped (writing h hf) (after_tick z)
-      from_writing h hf z (writes k b ne a) =
-          record { to = suc j; more = omega arith; here = has_written h hf ne a; moves = λ hi lt. inl (omega arith); fires = λ f w hi. omega arith; slow = λ f. absurd f }
-      from_writing h hf z (finishes b last a) =
-          record { to = suc j; more = omega arith; here = has_ended h.lt hf last a; moves = λ hi lt. inl (omega arith); fires = λ f w hi. omega arith; slow = λ f. absurd f }
+      from_writing h hf z (writes k b ne a) = completed (λ f. f) (has_written h hf ne a)
+      from_writing h hf z (finishes b last a) = completed (λ f. f) (has_ended h.lt hf last a)
       from_writing h hf z (again w b a) =
           record {
             to = j;
@@ -230,43 +205,20 @@ module _ (L : ℕ) (wide : 16 ≤ L) (within : L ≤ 24) (c e n : ℕ) (few : n 
             here =
                 writing
                 (subst (λ (q : ℕ). At j (suc i) (after_tick z) WriteC64 false false 0 q)
-                (again_latch L c e m₀ s₀ wide n few bus_length storage_long j h.lt x.m (place x j) (place_is x same j) x.s hf) (next_at h a))
-                (subst₂ (Halved j) (sym a.bus) (sym a.storage)
-                (half_again L c e m₀ s₀ wide n few bus_length storage_long j h.lt x.m (place x j) (place_is x same j) x.s hf));
+                (again_latch block j h.lt x.m (folds block x.u.size j) (folds_to block x.u.size same j) x.s hf) (next_at h a))
+                (subst₂ (Half block j) (sym a.bus) (sym a.storage)
+                (half_again block j h.lt x.m (folds block x.u.size j) (folds_to block x.u.size same j) x.s hf));
             moves = λ hi lt. inr tt;
-            fires = λ f w' hi. clash (previous w₀ B i) w' w;
+            fires = λ f w' hi. absurd (both_ways (previous w₀ B i) w w');
             slow = λ f. absurd f;
           }
-      from_writing h hf z (stays b a) =
-          record {
-            to = j;
-            more = omega arith;
-            here = writing (next_at h a) (subst₂ (Halved j) (sym a.bus) (sym a.storage) hf);
-            moves = λ hi lt. clash (B i) hi b;
-            fires = λ f w hi. clash (B i) hi b;
-            slow = λ f. absurd f;
-          }
+      from_writing h hf z (stays b a) = waited b (writing (next_at h a) (subst₂ (Half block j) (sym a.bus) (sym a.storage) hf))
       from_writing h hf z (refreshes w b a) =
-          record {
-            to = j;
-            more = omega arith;
-            here = refreshing (record { now = two h.going w b; was = b }) (next_at h a) (subst₂ (Halved j) (sym a.bus) (sym a.storage) hf);
-            moves = λ hi lt. clash (B i) hi b;
-            fires = λ f w' hi. clash (B i) hi b;
-            slow = λ f. absurd f;
-          }
+          waited b (refreshing (record { now = two h.going w b; was = b }) (next_at h a) (subst₂ (Half block j) (sym a.bus) (sym a.storage) hf))
       from_writing h hf z (gives_up b a) =
-          record {
-            to = j;
-            more = omega arith;
-            here =
-                reading (old j) (next_at h a)
-                (subst₂ (Whole j) (sym a.bus) (sym a.storage)
-                (half_back L c e m₀ s₀ wide n few bus_length storage_long j h.lt x.m (place x j) (place_is x same j) x.s hf));
-            moves = λ hi lt. clash (B i) hi b;
-            fires = λ f w' hi. clash (B i) hi b;
-            slow = λ f. absurd f;
-          }
+          waited b
+          (reading (latched block j) (next_at h a)
+          (subst₂ (Clean block j) (sym a.bus) (sym a.storage) (half_back block j h.lt x.m (folds block x.u.size j) (folds_to block x.u.size same j) x.s hf)))
 
       abbrev turned : Bool → Ticked
       turned phi1 = run_reu_cycle x.u x.m x.s high phi1 num low
@@ -275,57 +227,35 @@ module _ (L : ℕ) (wide : 16 ≤ L) (within : L ≤ 24) (c e n : ℕ) (few : n 
       pub step : (p : Progress j i x) → Stepped p (after_tick (turned (B i)))
       step (reading l h cl) =
           from_reading h cl (turned (B i))
-          (before_read x.u (on_bus c j) ((e + j) % 16777216) (n - j) x.m x.s high num low l (previous w₀ B i) (B i) h.history h.stands)
+          (before_read x.u (bus_at block j) ((block.e + j) % 16777216) (block.n - j) x.m x.s high num low l (previous w₀ B i) (B i) h.history h.stands)
       step (delayed_by_two l b h cl) =
-          let a = delayed_two x.u (on_bus c j) ((e + j) % 16777216) (n - j) x.m x.s high num low l (B i) h.stands in
-          record {
-            to = j;
-            more = omega arith;
-            here = delayed_by_one l (next_at h a) (subst₂ (Whole j) (sym a.bus) (sym a.storage) cl);
-            moves = λ hi lt. clash (B i) hi b.now;
-            fires = λ f. absurd f;
-            slow = λ f. absurd f;
-          }
+          let a = delayed_two x.u (bus_at block j) ((block.e + j) % 16777216) (block.n - j) x.m x.s high num low l (B i) h.stands in
+          waited b.now (delayed_by_one l (next_at h a) (subst₂ (Clean block j) (sym a.bus) (sym a.storage) cl))
       step (delayed_by_one l h cl) =
-          let w = has_read h cl (delayed_one x.u (on_bus c j) ((e + j) % 16777216) (n - j) x.m x.s high num low l (B i) h.stands) in
-          record { to = j; more = omega arith; here = writing w.0 w.1; moves = λ hi lt. inr tt; fires = λ f. absurd f; slow = λ f. absurd f }
+          read_now (λ f. f) (has_read h cl (delayed_one x.u (bus_at block j) ((block.e + j) % 16777216) (block.n - j) x.m x.s high num low l (B i) h.stands))
       step (writing h hf) =
           from_writing h hf (turned (B i))
-          (before_write x.u (on_bus c j) ((e + j) % 16777216) (n - j) x.m x.s high num low len (old j) (previous w₀ B i) (B i) h.history h.stands)
+          (before_write x.u (bus_at block j) ((block.e + j) % 16777216) (block.n - j) x.m x.s high num low len (latched block j) (previous w₀ B i) (B i) h.history h.stands)
       step (refreshing b h hf) =
-          let a : After (reg x.u 1) (B i) x.m (set x.s (place x j) (get_or x.m (on_bus c j) 0)) WriteC64 false false 0 (on_bus c j) ((e + j) % 16777216) (n - j) (old j) (turned (B i))
-          = subst (λ (y : Bool). After (reg x.u 1) y x.m (set x.s (place x j) (get_or x.m (on_bus c j) 0)) WriteC64 false false 0 (on_bus c j) ((e + j) % 16777216) (n - j) (old j) (turned y))
+          let a =
+          subst
+          (λ (y : Bool). After (reg x.u 1) y x.m (set x.s (folds block x.u.size j) (get_or x.m (bus_at block j) 0)) WriteC64 false false 0 (bus_at block j) ((block.e + j) % 16777216) (block.n - j) (latched block j) (turned y))
           (sym b.now)
-          (refreshed x.u (on_bus c j) ((e + j) % 16777216) (n - j) x.m x.s high num low (old j) (h.history ∙ b.was) h.stands) in
-          record {
-            to = j;
-            more = omega arith;
-            here =
-                writing (next_at h a)
-                (subst₂ (Halved j) (sym a.bus) (sym a.storage)
-                (half_refresh L c e m₀ s₀ wide n few bus_length storage_long j h.lt x.m (place x j) (place_is x same j) x.s hf));
-            moves = λ hi lt. clash (B i) hi b.now;
-            fires = λ f. absurd f;
-            slow = λ f. absurd f;
-          }
+          (refreshed x.u (bus_at block j) ((block.e + j) % 16777216) (block.n - j) x.m x.s high num low (latched block j) (h.history ∙ b.was) h.stands) in
+          waited b.now
+          (writing (next_at h a)
+          (subst₂ (Half block j) (sym a.bus) (sym a.storage) (half_refresh block j h.lt x.m (folds block x.u.size j) (folds_to block x.u.size same j) x.s hf)))
       step (terminal b last h hf) =
-          let a : Ends (reg x.u 1) (set x.m (on_bus c j) (old j)) x.s (turned (B i))
-          = subst (λ (y : Bool). Ends (reg x.u 1) (set x.m (on_bus c j) (old j)) x.s (turned y)) (sym b.now)
-          (in_pair x.u (on_bus c j) ((e + j) % 16777216) (n - j) x.m x.s high num low len (old j) last (h.history ∙ b.was) h.stands) in
-          record {
-            to = suc j;
-            more = omega arith;
-            here = has_ended h.lt hf last a;
-            moves = λ hi lt. clash (B i) hi b.now;
-            fires = λ f. absurd f;
-            slow = λ f. absurd f;
-          }
+          completed (λ f. f)
+          (has_ended h.lt hf last
+          (subst (λ (y : Bool). Ends (reg x.u 1) (set x.m (bus_at block j) (latched block j)) x.s (turned y)) (sym b.now)
+          (in_pair x.u (bus_at block j) ((block.e + j) % 16777216) (block.n - j) x.m x.s high num low len (latched block j) last (h.history ∙ b.was) h.stands)))
       step (over q k cl o) =
           let a = quiet_step_lem x.u k x.m x.s high (B i) num low in
           record {
             to = j;
             more = omega arith;
-            here = over q a.quiet (subst₂ (Whole n) (sym a.step.bus) (sym a.step.storage) cl) (ap (λ (v : ℕ). v / 128 % 2) (a.step.kept.regs 1 (omega arith)) ∙ o);
+            here = over q a.quiet (subst₂ (Clean block block.n) (sym a.step.bus) (sym a.step.storage) cl) (ap (λ (v : ℕ). v / 128 % 2) (a.step.kept.regs 1 (omega arith)) ∙ o);
             moves = λ hi lt. absurd (omega arith);
             fires = λ f. absurd f;
             slow = λ f. absurd f;

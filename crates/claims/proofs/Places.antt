@@ -12,8 +12,9 @@ use lib.Seq.{get_or-set_same, set-set, set-get_or}
 use lib.Dec.{leb}
 use native.Mathlib.Omega.{arith}
 use borrow.Author.Tests.{leb-true, leb-false}
+use Rattle.transfer.specs.Memory.{lines}
 use Rattle.transfer.proofs.Sizes.{fold_fold}
-use Rattle.claims.proofs.Exchange.{Exch, exch_next}
+use Rattle.claims.proofs.Exchange.{Exch, exch_next, together, exch_count}
 
 abbrev pub on_bus : ℕ → ℕ → ℕ
 on_bus c i = (c + i) % 65536
@@ -53,80 +54,115 @@ next_bus c j = omega arith
 pub next_storage : (e j : ℕ) → ((e + j) % 16777216 + 1) % 16777216 ≡ (e + suc j) % 16777216
 next_storage e j = omega arith
 
-pub folded : (lines e j : ℕ) → lines ≤ 24 → (e + j) % 16777216 % 2 ^ lines ≡ on_storage lines e j
-folded lines e j h = fold_fold (e + j) lines 24 h
+-- ---- a block
 
--- ---- a block of the bus m₀ and the storage s₀
+-- L address lines, from 16 on; the block's bus place, expansion address and length; bus and storage before it is swapped
+pub record Block : Type 0 where
+  pub L : ℕ
+  pub wide : 16 ≤ L
+  pub within : L ≤ 24
+  pub c : ℕ
+  pub e : ℕ
+  pub n : ℕ
+  pub few : n ≤ 65536
+  pub bus : List ℕ
+  pub storage : List ℕ
+  pub bus_length : length bus ≡ 65536
+  pub storage_long : length storage ≡ 2 ^ L
 
-module _ (L c e : ℕ) (m₀ s₀ : List ℕ) where
-  -- the byte of the storage that byte j displaces
+module _ (b : Block) where
+  -- the places of byte j; and the bytes that are there at first
+  abbrev pub bus_at : ℕ → ℕ
+  bus_at = on_bus b.c
+
+  abbrev pub storage_at : ℕ → ℕ
+  storage_at = on_storage b.L b.e
+
+  abbrev pub sent : ℕ → ℕ
+  sent j = get_or b.bus (bus_at j) 0
+
   abbrev pub latched : ℕ → ℕ
-  latched j = get_or s₀ (on_storage L e j) 0
+  latched j = get_or b.storage (storage_at j) 0
 
   -- j bytes have changed places; or besides, the storage has the bus's byte j
   abbrev pub Clean : ℕ → List ℕ → List ℕ → Type 0
-  Clean j m s = Exch (on_bus c) (on_storage L e) j m₀ s₀ m s
+  Clean j m s = Exch bus_at storage_at j b.bus b.storage m s
 
   pub record Half (j : ℕ) (m s : List ℕ) : Type 0 where
     pub old : List ℕ
     pub clean : Clean j m old
-    pub now : s ≡ set old (on_storage L e j) (get_or m₀ (on_bus c j) 0)
+    pub now : s ≡ set old (storage_at j) (sent j)
 
-  module _ (wide : 16 ≤ L) (n : ℕ) (few : n ≤ 65536) (bus_length : length m₀ ≡ 65536) (storage_long : length s₀ ≡ 2 ^ L) where
-    pub fits : (j : ℕ) → on_storage L e j < length s₀
-    fits j = subst (λ (k : ℕ). on_storage L e j < k) (sym storage_long) (mod-lt (e + j) (pow_pos L))
+  bus_unlike : (i j : ℕ) → i < j → j < b.n → bus_at i ≢ bus_at j
+  bus_unlike i j h k = bus_apart b.c i j h (omega (arith, b.few))
 
-    -- at is byte j's place in the storage
-    module _ (j : ℕ) (lt : j < n) (m : List ℕ) (at : ℕ) (is : at ≡ on_storage L e j) where
-      clean_bus : (s : List ℕ) → Clean j m s → get_or m (on_bus c j) 0 ≡ get_or m₀ (on_bus c j) 0
-      clean_bus s x = x.other_bus (on_bus c j) (λ i h q. bus_apart c i j h (omega arith) (sym q))
+  storage_unlike : (i j : ℕ) → i < j → j < b.n → storage_at i ≢ storage_at j
+  storage_unlike i j h k = storage_apart b.L b.e i j b.wide h (omega (arith, b.few))
 
-      pub clean_latch : (s : List ℕ) → Clean j m s → get_or s at 0 ≡ latched j
-      clean_latch s x =
-          ap (λ (q : ℕ). get_or s q 0) is ∙ x.other_storage (on_storage L e j) (λ i h q. storage_apart L e i j wide h (omega arith) (sym q))
+  in_bus : (j : ℕ) → bus_at j < length b.bus
+  in_bus j = omega (arith, b.bus_length)
 
-      -- the read
-      pub clean_read : (s : List ℕ) → Clean j m s → Half j m (set s at (get_or m (on_bus c j) 0))
-      clean_read s x = record { old = s; clean = x; now = λ i. set s (is i) (clean_bus s x i) }
+  in_storage : (j : ℕ) → storage_at j < length b.storage
+  in_storage j = subst (λ (k : ℕ). storage_at j < k) (sym b.storage_long) (mod-lt (b.e + j) (pow_pos b.L))
 
-      module _ (s : List ℕ) (x : Half j m s) where
-        half_bus : get_or m (on_bus c j) 0 ≡ get_or m₀ (on_bus c j) 0
-        half_bus = clean_bus x.old x.clean
+  -- where a controller of this size folds byte j to
+  abbrev pub folds : ℕ → ℕ → ℕ
+  folds size j = (b.e + j) % 16777216 % 2 ^ lines size
 
-        half_size : at < length s
-        half_size =
-            subst (λ (k : ℕ). at < k) (sym (ap length x.now ∙ length-set x.old (on_storage L e j) (get_or m₀ (on_bus c j) 0) ∙ x.clean.storage_size))
-            (subst (λ (k : ℕ). k < length s₀) (sym is) (fits j))
+  pub folds_to : (size : ℕ) → lines size ≡ b.L → (j : ℕ) → folds size j ≡ storage_at j
+  folds_to size same j = ap (λ (k : ℕ). (b.e + j) % 16777216 % 2 ^ k) same ∙ fold_fold (b.e + j) b.L 24 b.within
 
-        -- the storage's byte put back
-        pub half_back : Clean j m (set s at (latched j))
-        half_back =
-            subst (Clean j m)
-            (sym ((λ i. set (x.now i) (is i) (sym (clean_latch x.old x.clean) i))
-            ∙ set-set x.old (on_storage L e j) (get_or m₀ (on_bus c j) 0) (get_or x.old at 0)
-            ∙ (λ i. set x.old (on_storage L e j) (get_or x.old (is i) 0))
-            ∙ set-get_or x.old (on_storage L e j) 0))
-            x.clean
+  -- at is byte j's place in the storage
+  module _ (j : ℕ) (lt : j < b.n) (m : List ℕ) (at : ℕ) (is : at ≡ storage_at j) where
+    clean_bus : (s : List ℕ) → Clean j m s → get_or m (bus_at j) 0 ≡ sent j
+    clean_bus s x = x.other_bus (bus_at j) (λ i h q. bus_unlike i j h lt (sym q))
 
-        -- and read again
-        pub half_again : Half j m (set (set s at (latched j)) at (get_or m (on_bus c j) 0))
-        half_again = clean_read (set s at (latched j)) half_back
+    pub clean_latch : (s : List ℕ) → Clean j m s → get_or s at 0 ≡ latched j
+    clean_latch s x = ap (λ (q : ℕ). get_or s q 0) is ∙ x.other_storage (storage_at j) (λ i h q. storage_unlike i j h lt (sym q))
 
-        pub again_latch : get_or (set s at (latched j)) at 0 ≡ latched j
-        again_latch = get_or-set_same s at (latched j) 0 half_size
+    -- the read
+    pub clean_read : (s : List ℕ) → Clean j m s → Half j m (set s at (get_or m (bus_at j) 0))
+    clean_read s x = record { old = s; clean = x; now = λ i. set s (is i) (clean_bus s x i) }
 
-        -- refreshed
-        pub half_refresh : Half j m (set s at (get_or m (on_bus c j) 0))
-        half_refresh =
-            record {
-              old = x.old;
-              clean = x.clean;
-              now = (λ i. set (x.now i) (is i) (half_bus i)) ∙ set-set x.old (on_storage L e j) (get_or m₀ (on_bus c j) 0) (get_or m₀ (on_bus c j) 0);
-            }
+    module _ (s : List ℕ) (x : Half j m s) where
+      half_size : at < length s
+      half_size =
+          subst (λ (k : ℕ). at < k) (sym (ap length x.now ∙ length-set x.old (storage_at j) (sent j) ∙ x.clean.storage_size))
+          (subst (λ (k : ℕ). k < length b.storage) (sym is) (in_storage j))
 
-    -- the write
-    pub half_write : (j : ℕ) → j < n → (m s : List ℕ) → Half j m s → Clean (suc j) (set m (on_bus c j) (latched j)) s
-    half_write j lt m s x =
-        rw x.now
-        (exch_next (on_bus c) (on_storage L e) j m₀ s₀ m x.old x.clean (omega arith) (fits j)
-        (λ i h. bus_apart c i j h (omega arith)) (λ i h. storage_apart L e i j wide h (omega arith)))
+      -- the storage's byte put back
+      pub half_back : Clean j m (set s at (latched j))
+      half_back =
+          subst (Clean j m)
+          (sym ((λ i. set (x.now i) (is i) (sym (clean_latch x.old x.clean) i))
+          ∙ set-set x.old (storage_at j) (sent j) (get_or x.old at 0)
+          ∙ (λ i. set x.old (storage_at j) (get_or x.old (is i) 0))
+          ∙ set-get_or x.old (storage_at j) 0))
+          x.clean
+
+      -- and read again
+      pub half_again : Half j m (set (set s at (latched j)) at (get_or m (bus_at j) 0))
+      half_again = clean_read (set s at (latched j)) half_back
+
+      pub again_latch : get_or (set s at (latched j)) at 0 ≡ latched j
+      again_latch = get_or-set_same s at (latched j) 0 half_size
+
+      -- refreshed
+      pub half_refresh : Half j m (set s at (get_or m (bus_at j) 0))
+      half_refresh =
+          record {
+            old = x.old;
+            clean = x.clean;
+            now = (λ i. set (x.now i) (is i) (clean_bus x.old x.clean i)) ∙ set-set x.old (storage_at j) (sent j) (sent j);
+          }
+
+  -- the write
+  pub half_write : (j : ℕ) → j < b.n → (m s : List ℕ) → Half j m s → Clean (suc j) (set m (bus_at j) (latched j)) s
+  half_write j lt m s x =
+      rw x.now
+      (exch_next bus_at storage_at j b.bus b.storage m x.old x.clean (in_bus j) (in_storage j)
+      (λ i h. bus_unlike i j h lt) (λ i h. storage_unlike i j h lt))
+
+  -- when all bytes have changed places, each value occurs as often as before
+  pub clean_count : (v : ℕ) (m s : List ℕ) → Clean b.n m s → together bus_at storage_at v m s ≡ together bus_at storage_at v b.bus b.storage
+  clean_count v = exch_count bus_at storage_at v b.n b.bus b.storage (λ j h. in_bus j) (λ j h. in_storage j) bus_unlike storage_unlike

@@ -6,7 +6,7 @@ use mathlib.Core.Logic.{◌⊎◌, inl, inr}
 use lib.ListN.{length}
 use native.Mathlib.Omega.{arith}
 use native.Mathlib.Decide.{ℕ_discrete}
-use borrow.Author.Tests.{le-leb}
+use borrow.Author.Tests.{both_ways, le-leb}
 use Rattle.transfer.specs.Bytes.{bit}
 use Rattle.transfer.specs.Memory.{lines}
 use Rattle.transfer.specs.declared.dma.SwapPhase.TheVariants.{ReadC64}
@@ -16,17 +16,14 @@ use Rattle.claims.specs.Calls.{Held, Kind}
 use Rattle.claims.specs.SwapTwice.{byte, size_set, ShownAll, Exchanged, Ended}
 use Rattle.claims.specs.SwapOnScreen.{SwapStart, Told, held_at, Runs, high_at, TwoLow, left, occurrences, screen}
 use Rattle.claims.proofs.CycleLaw.{Stands}
-use Rattle.claims.proofs.Exchange.{Exch, exch_zero, exch_count}
-use Rattle.claims.proofs.Places.{on_bus, on_storage, bus_apart, storage_apart, fits}
+use Rattle.claims.proofs.Exchange.{exch_zero}
+use Rattle.claims.proofs.Places.{Block, bus_at, storage_at, Clean, clean_count}
 use Rattle.claims.proofs.States.{St, Ready}
 use Rattle.claims.proofs.Look.{one_bit, reg_byte, reg_ended, left_none, left_some, size_is}
-use Rattle.claims.proofs.Swap.{c64_of, exp_of, len_of, few, one_byte, connected_lines, wide, within, storage_long, small_word}
+use Rattle.claims.proofs.Swap.{one_byte, block, first_stands}
 use Rattle.claims.proofs.BaSwap.{previous, Going, Progress, reading, Live, Over, view, IsWriting, Stepped, step}
 use Rattle.claims.proofs.Outcome.{shown_block}
 use Rattle.claims.proofs.ScreenStart.{opens, opens_ready, opens_is, first, began, first_going, state, state_ready, state_size, state_is}
-
-pub clash : {A : Type 0} (b : Bool) → b ≡ true → b ≡ false → A
-clash b p q = absurd (let z : ◌≡◌ {A = ℕ} 0 1 = cc in omega arith)
 
 module _ (k : Held) (d : Kind) (st : SwapStart k d) (f : ℕ → Told) (tl : TwoLow k d f) where
   abbrev x : St
@@ -36,17 +33,11 @@ module _ (k : Held) (d : Kind) (st : SwapStart k d) (f : ℕ → Told) (tl : Two
   r = opens_ready k d st
 
   -- the block, and what BA was before the first call
-  abbrev L : ℕ
-  L = connected_lines x r
-
-  abbrev c : ℕ
-  c = c64_of x.u
-
-  abbrev e : ℕ
-  e = exp_of x.u
+  abbrev blk : Block
+  blk = block x r
 
   abbrev n : ℕ
-  n = len_of x.u
+  n = blk.n
 
   abbrev w₀ : Bool
   w₀ = (first k d st).u.ba_was_high
@@ -58,20 +49,20 @@ module _ (k : Held) (d : Kind) (st : SwapStart k d) (f : ℕ → Told) (tl : Two
   ready = state_ready k d st f
 
   abbrev Swapping : ℕ → ℕ → St → Type 0
-  Swapping = Progress L (wide x r) (within x r) c e n (few x r) x.m x.s r.bus.size (storage_long x r) w₀ (high_at f)
+  Swapping = Progress blk w₀ (high_at f)
 
   abbrev Seen : ℕ → St → Type 0
   Seen j y =
-      Live L (wide x r) (within x r) c e n (few x r) x.m x.s r.bus.size (storage_long x r) w₀ (high_at f) j y
-      ⊎ Over L (wide x r) (within x r) c e n (few x r) x.m x.s r.bus.size (storage_long x r) w₀ (high_at f) j y
+      Live blk w₀ (high_at f) j y
+      ⊎ Over blk w₀ (high_at f) j y
 
   abbrev Turned : (j i : ℕ) (y : St) → Swapping j i y → St → Type 0
   Turned j i y p z =
-      Stepped L (wide x r) (within x r) c e n (few x r) x.m x.s r.bus.size (storage_long x r) w₀ (high_at f) p z
+      Stepped blk w₀ (high_at f) p z
 
   abbrev WritesNext : (j i : ℕ) (y : St) → Swapping j i y → Type 0
   WritesNext j i y p =
-      IsWriting L (wide x r) (within x r) c e n (few x r) x.m x.s r.bus.size (storage_long x r) w₀ (high_at f) p
+      IsWriting blk w₀ (high_at f) p
 
   -- how many bytes are done before call i, and how the swap stands
   record Reached (i : ℕ) : Type 0 where
@@ -110,32 +101,19 @@ module _ (k : Held) (d : Kind) (st : SwapStart k d) (f : ℕ → Told) (tl : Two
   turned : (i : ℕ) (p : Reached i) → Turned p.j i (at i) p.here (at (suc i))
   unfolding state
   turned i p =
-      step L (wide x r) (within x r) c e n (few x r) x.m x.s r.bus.size (storage_long x r) w₀ (high_at f) p.j i (at i)
+      step blk w₀ (high_at f) p.j i (at i)
       (ap lines (state_size k d st f i)) (second_low i) (ready i).sound.regs.len (flag (f i).high) (flag (f i).low) (f i).number p.here
 
   first_reached : Reached 0
   unfolding state first
   first_reached =
       let b = began k d st in
-      let small : c < 65536 = small_word x r 2 3 in
-      let small' : reg x.u 4 + 256 * reg x.u 5 < 65536 = small_word x r 4 5 in
-      let bank : reg x.u 6 < 256 = (r.sound.regs.fits 6).byte in
-      let c0 : c ≡ on_bus c 0 = omega arith in
-      let e0 : e ≡ (e + 0) % 16777216 = omega arith in
-      let n0 : n ≡ n - 0 = omega arith in
+      let h = first_stands x r b.begun.reading in
       record {
         j = 0;
         here =
-            reading b.begun.reading.latch
-            (record {
-              lt = omega (arith, one_byte x r);
-              history = refl;
-              going = first_going k d st;
-              stands =
-                  subst (λ (q : ℕ). Stands (at 0).u ReadC64 false false 0 (on_bus c 0) ((e + 0) % 16777216) q b.begun.reading.latch) n0
-                  (subst₂ (λ (q q' : ℕ). Stands (at 0).u ReadC64 false false 0 q q' n b.begun.reading.latch) c0 e0 b.begun.reading.stands);
-            })
-            (subst₂ (Exch (on_bus c) (on_storage L e) 0 x.m x.s) (sym b.bus) (sym b.storage) (exch_zero (on_bus c) (on_storage L e) x.m x.s));
+            reading h.latch (record { lt = omega (arith, one_byte x r); history = refl; going = first_going k d st; stands = h.stands })
+            (subst₂ (Clean blk 0) (sym b.bus) (sym b.storage) (exch_zero (bus_at blk) (storage_at blk) x.m x.s));
       }
 
   reach : (i : ℕ) → Reached i
@@ -148,7 +126,7 @@ module _ (k : Held) (d : Kind) (st : SwapStart k d) (f : ℕ → Told) (tl : Two
 
   seen : (i : ℕ) → Seen (bytes i) (at i)
   seen i =
-      view L (wide x r) (within x r) c e n (few x r) x.m x.s r.bus.size (storage_long x r) w₀ (high_at f)
+      view blk w₀ (high_at f)
       (bytes i) i (at i) (reach i).here
 
   -- ---- COMMAND's bit 7, and the bytes that are left
@@ -161,7 +139,7 @@ module _ (k : Held) (d : Kind) (st : SwapStart k d) (f : ℕ → Told) (tl : Two
     where
       go : Seen (bytes i) (at i) → bytes i < n
       go (inl v) = v.lt
-      go (inr v) = clash _ r (over_ended i v.ended)
+      go (inr v) = absurd (both_ways _ (over_ended i v.ended) r)
 
   few_runs : (i : ℕ) → bytes i < n → Runs (held_at k d f i)
   few_runs i h = go (seen i)
@@ -193,12 +171,12 @@ module _ (k : Held) (d : Kind) (st : SwapStart k d) (f : ℕ → Told) (tl : Two
   -- ---- when it has ended
 
   pub exchanged : (i : ℕ) → Ended (held_at k d f i)
-      → Exch (on_bus c) (on_storage L e) n x.m x.s (held_at k d f i).bus (held_at k d f i).storage
+      → Clean blk n (held_at k d f i).bus (held_at k d f i).storage
   exchanged i en =
-      subst (λ (h : Held). Exch (on_bus c) (on_storage L e) n x.m x.s h.bus h.storage) (sym (state_is k d st f i)) (go (seen i))
+      subst (λ (h : Held). Clean blk n h.bus h.storage) (sym (state_is k d st f i)) (go (seen i))
     where
-      go : Seen (bytes i) (at i) → Exch (on_bus c) (on_storage L e) n x.m x.s (at i).m (at i).s
-      go (inl v) = clash _ (live_runs i v.going) en
+      go : Seen (bytes i) (at i) → Clean blk n (at i).m (at i).s
+      go (inl v) = absurd (both_ways _ en (live_runs i v.going))
       go (inr v) = v.exch
 
   pub shown_exchanged : (w : ℕ → ℕ) → ShownAll k w → (i : ℕ) → Ended (held_at k d f i) → Exchanged w k (held_at k d f i)
@@ -208,13 +186,7 @@ module _ (k : Held) (d : Kind) (st : SwapStart k d) (f : ℕ → Told) (tl : Two
 
   pub same_count : (i v : ℕ) → Ended (held_at k d f i) → occurrences v (held_at k d f i) ≡ occurrences v k
   unfolding opens
-  same_count i v en =
-      exch_count (on_bus c) (on_storage L e) v n x.m x.s (λ j h. in_bus j) (λ j h. fits L c e x.m x.s (wide x r) n (few x r) r.bus.size (storage_long x r) j)
-      (λ j j' h l. bus_apart c j j' h (omega (arith, l, few x r))) (λ j j' h l. storage_apart L e j j' (wide x r) h (omega (arith, l, few x r)))
-      (held_at k d f i).bus (held_at k d f i).storage (exchanged i en)
-    where
-      in_bus : (j : ℕ) → on_bus c j < length x.m
-      in_bus j = omega (arith, r.bus.size)
+  same_count i v en = clean_count blk v (held_at k d f i).bus (held_at k d f i).storage (exchanged i en)
 
   -- ---- two high calls in a row complete a byte
 

@@ -2,7 +2,7 @@
 use Prim.Native.Nat.{ℕ, suc, ◌+◌, ◌-◌, ◌*◌, ◌/◌, ◌%◌, ◌^◌, ◌<◌, ◌≤◌}
 use native.Mathlib.Nat.{zero-add}
 use mathlib.Core.Bool.{Bool, true, false, not}
-use mathlib.Core.Path.{◌≡◌, refl, sym, ap, ◌∙◌, subst, subst₂, fun_ext}
+use mathlib.Core.Path.{◌≡◌, refl, sym, ap, ◌∙◌, subst, subst₂, subst₃, fun_ext}
 use mathlib.Core.Logic.{◌≢◌}
 use mathlib.Core.List.{List}
 use lib.ListN.{length, get_or}
@@ -34,7 +34,7 @@ use Rattle.image.proofs.SoundCalls.{length_range}
 use Rattle.claims.proofs.CycleLaw.{Reading, Writing, Quiet, Kept, ReadStep, WriteStep, LastStep, IdleStep, read_step, write_step, last_step, idle_step, quiet_step_lem}
 use Rattle.claims.proofs.RegisterLaw.{Begun, start_law, Rewritten, rewritten_none, rewritten_keep, Value, rewrite_law, read_law, read_stays_quiet}
 use Rattle.claims.proofs.Exchange.{Exch, exch_zero}
-use Rattle.claims.proofs.Places.{on_bus, on_storage, next_bus, next_storage, folded, latched, Clean, Half, clean_latch, clean_read, half_write}
+use Rattle.claims.proofs.Places.{next_bus, next_storage, Block, bus_at, storage_at, latched, Clean, Half, folds, folds_to, clean_latch, clean_read, half_write}
 use Rattle.claims.proofs.States.{St, held, on, step_of, number_of, Steady, keeps_size, Ready}
 use Rattle.claims.proofs.Accepted.{without_bus, answer_is}
 use Rattle.claims.proofs.Look.{ended_reg, reg_ended, Idling}
@@ -75,91 +75,86 @@ kept_of u w e k =
 abbrev pub Allowed : (ℕ → ℕ) → ℕ → ℕ → Type 0
 Allowed W a v = OfBlock (register a) × Value W (register a) v
 
--- L is the number of address lines, from 16 on: one argument for every size
-module _ (W : ℕ → ℕ) (L : ℕ) (wide : 16 ≤ L) (within : L ≤ 24) (c e n : ℕ) (few : n ≤ 65536) (m₀ s₀ : List ℕ)
-    (bus_length : length m₀ ≡ 65536) (storage_size : length s₀ ≡ 2 ^ L) where
+-- of a block with any number of address lines from 16 on: one argument for every size
+module _ (W : ℕ → ℕ) (b : Block) where
   pub data Progress (k : ℕ) (g : ℕ → ℕ) (x : St) : Type 0 where
     reading :
-        (j : ℕ) → j < n → k ≡ 2 * j → ((r : ℕ) → g r ≡ 0) → Reading x.u (on_bus c j) ((e + j) % 16777216) (n - j)
-        → Exch (on_bus c) (on_storage L e) j m₀ s₀ x.m x.s → reg x.u 1 / 128 % 2 ≡ 1 → reg x.u 10 / 64 ≡ 0 → Progress k g x
+        (j : ℕ) → j < b.n → k ≡ 2 * j → ((r : ℕ) → g r ≡ 0) → Reading x.u (bus_at b j) ((b.e + j) % 16777216) (b.n - j)
+        → Clean b j x.m x.s → reg x.u 1 / 128 % 2 ≡ 1 → reg x.u 10 / 64 ≡ 0 → Progress k g x
     writing :
-        (j : ℕ) → j < n → k ≡ 2 * j + 1 → ((r : ℕ) → g r ≡ 0)
-        → Writing x.u (on_bus c j) ((e + j) % 16777216) (n - j) (latched L c e m₀ s₀ j) → Half L c e m₀ s₀ j x.m x.s
+        (j : ℕ) → j < b.n → k ≡ 2 * j + 1 → ((r : ℕ) → g r ≡ 0)
+        → Writing x.u (bus_at b j) ((b.e + j) % 16777216) (b.n - j) (latched b j) → Half b j x.m x.s
         → reg x.u 1 / 128 % 2 ≡ 1 → reg x.u 10 / 64 ≡ 0 → Progress k g x
     over :
-        k ≡ 2 * n → Quiet x.u → Rewritten W g x.u → Exch (on_bus c) (on_storage L e) n m₀ s₀ x.m x.s
+        k ≡ 2 * b.n → Quiet x.u → Rewritten W g x.u → Clean b b.n x.m x.s
         → reg x.u 1 / 128 % 2 ≡ 0 → reg x.u 10 / 64 ≡ 0 → Progress k g x
 
-  -- folding, by the size that the controller has
-  folded_at : (size : ℕ) → lines size ≡ L → (j : ℕ) → (e + j) % 16777216 % 2 ^ lines size ≡ on_storage L e j
-  folded_at size same j = ap (λ (k : ℕ). (e + j) % 16777216 % 2 ^ k) same ∙ folded L e j within
-
   -- one granted cycle of the read phase
-  cycle_reads : (k : ℕ) (g : ℕ → ℕ) (x : St) → lines x.u.size ≡ L → (j : ℕ) → j < n → k ≡ 2 * j → ((r : ℕ) → g r ≡ 0)
-      → Exch (on_bus c) (on_storage L e) j m₀ s₀ x.m x.s → reg x.u 1 / 128 % 2 ≡ 1 → reg x.u 10 / 64 ≡ 0
-      → (t : Ticked) (a : ReuBusAction) → ReadStep x.u (on_bus c j) ((e + j) % 16777216) (n - j) x.m x.s t a
+  cycle_reads : (k : ℕ) (g : ℕ → ℕ) (x : St) → lines x.u.size ≡ b.L → (j : ℕ) → j < b.n → k ≡ 2 * j → ((r : ℕ) → g r ≡ 0)
+      → Clean b j x.m x.s → reg x.u 1 / 128 % 2 ≡ 1 → reg x.u 10 / 64 ≡ 0
+      → (t : Ticked) (a : ReuBusAction) → ReadStep x.u (bus_at b j) ((b.e + j) % 16777216) (b.n - j) x.m x.s t a
       → Progress (1 + k) g (after_tick t)
   cycle_reads k g x same j lt ek zero' ex one free t a st =
       writing j lt (omega arith) zero'
-      (subst (λ (v : ℕ). Writing t.0.reu (on_bus c j) ((e + j) % 16777216) (n - j) v)
-      (clean_latch L c e m₀ s₀ wide n few bus_length storage_size j lt x.m ((e + j) % 16777216 % 2 ^ lines x.u.size) (folded_at x.u.size same j) x.s ex)
+      (subst (λ (v : ℕ). Writing t.0.reu (bus_at b j) ((b.e + j) % 16777216) (b.n - j) v)
+      (clean_latch b j lt x.m (folds b x.u.size j) (folds_to b x.u.size same j) x.s ex)
       st.phase)
-      (subst₂ (Half L c e m₀ s₀ j) (sym st.bus) (sym st.storage)
-      (clean_read L c e m₀ s₀ wide n few bus_length storage_size j lt x.m ((e + j) % 16777216 % 2 ^ lines x.u.size) (folded_at x.u.size same j) x.s ex))
+      (subst₂ (Half b j) (sym st.bus) (sym st.storage)
+      (clean_read b j lt x.m (folds b x.u.size j) (folds_to b x.u.size same j) x.s ex))
       (ap (λ (l : List ℕ). get_or l 1 0 / 128 % 2) st.regs ∙ one)
       (ap (λ (l : List ℕ). get_or l 10 0 / 64) st.regs ∙ free)
 
   -- one granted cycle of the write phase, of a byte that is not the last
-  cycle_writes : (k : ℕ) (g : ℕ → ℕ) (x : St) (j : ℕ) → suc j < n → k ≡ 2 * j + 1 → ((r : ℕ) → g r ≡ 0) → Half L c e m₀ s₀ j x.m x.s
+  cycle_writes : (k : ℕ) (g : ℕ → ℕ) (x : St) (j : ℕ) → suc j < b.n → k ≡ 2 * j + 1 → ((r : ℕ) → g r ≡ 0) → Half b j x.m x.s
       → reg x.u 1 / 128 % 2 ≡ 1 → reg x.u 10 / 64 ≡ 0
-      → (t : Ticked) (a : ReuBusAction) → WriteStep x.u (on_bus c j) ((e + j) % 16777216) (n - j) (latched L c e m₀ s₀ j) x.m x.s t a
+      → (t : Ticked) (a : ReuBusAction) → WriteStep x.u (bus_at b j) ((b.e + j) % 16777216) (b.n - j) (latched b j) x.m x.s t a
       → Progress (1 + k) g (after_tick t)
   cycle_writes k g x j lt ek zero' half one free t a st =
-      let left : n - j - 1 ≡ n - suc j = omega arith in
+      let left : b.n - j - 1 ≡ b.n - suc j = omega arith in
       reading (suc j) lt (omega arith) zero'
-      (subst (λ (q : ℕ). Reading t.0.reu (on_bus c (suc j)) ((e + suc j) % 16777216) q) left
-      (subst (λ (q : ℕ). Reading t.0.reu (on_bus c (suc j)) q (n - j - 1)) (next_storage e j)
-      (subst (λ (q : ℕ). Reading t.0.reu q (((e + j) % 16777216 + 1) % 16777216) (n - j - 1)) (next_bus c j) st.phase)))
-      (subst₂ (Clean L c e m₀ s₀ (suc j)) (sym st.bus) (sym st.storage)
-      (half_write L c e m₀ s₀ wide n few bus_length storage_size j (omega arith) x.m x.s half))
+      (subst (λ (q : ℕ). Reading t.0.reu (bus_at b (suc j)) ((b.e + suc j) % 16777216) q) left
+      (subst (λ (q : ℕ). Reading t.0.reu (bus_at b (suc j)) q (b.n - j - 1)) (next_storage b.e j)
+      (subst (λ (q : ℕ). Reading t.0.reu q (((b.e + j) % 16777216 + 1) % 16777216) (b.n - j - 1)) (next_bus b.c j) st.phase)))
+      (subst₂ (Clean b (suc j)) (sym st.bus) (sym st.storage)
+      (half_write b j (omega arith) x.m x.s half))
       (ap (λ (q : ℕ). q / 128 % 2) st.command ∙ one) (ap (λ (q : ℕ). q / 64) st.control ∙ free)
 
   -- of the last byte
-  cycle_lasts : (k : ℕ) (g : ℕ → ℕ) (x : St) (j : ℕ) → suc j ≡ n → k ≡ 2 * j + 1 → ((r : ℕ) → g r ≡ 0) → Half L c e m₀ s₀ j x.m x.s
+  cycle_lasts : (k : ℕ) (g : ℕ → ℕ) (x : St) (j : ℕ) → suc j ≡ b.n → k ≡ 2 * j + 1 → ((r : ℕ) → g r ≡ 0) → Half b j x.m x.s
       → reg x.u 10 / 64 ≡ 0
-      → (t : Ticked) (a : ReuBusAction) → LastStep x.u (on_bus c j) (latched L c e m₀ s₀ j) x.m x.s t a
+      → (t : Ticked) (a : ReuBusAction) → LastStep x.u (bus_at b j) (latched b j) x.m x.s t a
       → Progress (1 + k) g (after_tick t)
   cycle_lasts k g x j last ek zero' half free t a st =
       over (omega arith) st.quiet
       (subst (λ (f : ℕ → ℕ). Rewritten W f t.0.reu) (fun_ext (λ r. sym (zero' r))) (rewritten_none W t.0.reu))
-      (subst (λ (q : ℕ). Clean L c e m₀ s₀ q t.1 t.2) last
-      (subst₂ (Clean L c e m₀ s₀ (suc j)) (sym st.bus) (sym st.storage)
-      (half_write L c e m₀ s₀ wide n few bus_length storage_size j (omega arith) x.m x.s half)))
+      (subst (λ (q : ℕ). Clean b q t.1 t.2) last
+      (subst₂ (Clean b (suc j)) (sym st.bus) (sym st.storage)
+      (half_write b j (omega arith) x.m x.s half)))
       (ap (λ (q : ℕ). q / 128 % 2) st.command ∙ command_ends (reg x.u 1))
       (ap (λ (q : ℕ). q / 64) st.control ∙ free)
 
   -- a cycle is granted until the swap is over, and then no more
   data Cycled (k : ℕ) (g : ℕ → ℕ) (t : Ticked) (a : ReuBusAction) : Type 0 where
     moves : a ≡ Transfer → Progress (1 + k) g (after_tick t) → Cycled k g t a
-    rests : a ≡ Cpu → k ≡ 2 * n → Progress k g (after_tick t) → Cycled k g t a
+    rests : a ≡ Cpu → k ≡ 2 * b.n → Progress k g (after_tick t) → Cycled k g t a
 
-  cycled : (k : ℕ) (g : ℕ → ℕ) (x : St) (low : Bool) (i : ℕ) → Sound x.u → lines x.u.size ≡ L → Progress k g x
+  cycled : (k : ℕ) (g : ℕ → ℕ) (x : St) (low : Bool) (i : ℕ) → Sound x.u → lines x.u.size ≡ b.L → Progress k g x
       → Cycled k g (run_reu_cycle x.u x.m x.s true true i low) (core_bus_action x.u x.s true true i).0.action
   cycled k g x low i sound same (reading j lt ek zero' rd ex one free) =
-      let st = read_step x.u (on_bus c j) ((e + j) % 16777216) (n - j) rd x.m x.s true i low in
+      let st = read_step x.u (bus_at b j) ((b.e + j) % 16777216) (b.n - j) rd x.m x.s true i low in
       moves st.granted (cycle_reads k g x same j lt ek zero' ex one free _ _ st)
-  cycled k g x low i sound same (writing j lt ek zero' wr half one free) = go (ℕ_discrete (n - j) 1)
+  cycled k g x low i sound same (writing j lt ek zero' wr half one free) = go (ℕ_discrete (b.n - j) 1)
     where
       latch : ℕ
-      latch = latched L c e m₀ s₀ j
+      latch = latched b j
 
-      go : Dec (n - j ≡ 1) → Cycled k g (run_reu_cycle x.u x.m x.s true true i low) (core_bus_action x.u x.s true true i).0.action
+      go : Dec (b.n - j ≡ 1) → Cycled k g (run_reu_cycle x.u x.m x.s true true i low) (core_bus_action x.u x.s true true i).0.action
       go (yes q) =
-          let st = last_step x.u (on_bus c j) ((e + j) % 16777216) latch (subst (λ (r : ℕ). Writing x.u (on_bus c j) ((e + j) % 16777216) r latch) q wr)
+          let st = last_step x.u (bus_at b j) ((b.e + j) % 16777216) latch (subst (λ (r : ℕ). Writing x.u (bus_at b j) ((b.e + j) % 16777216) r latch) q wr)
           sound.regs.len x.m x.s true i low in
           moves st.granted (cycle_lasts k g x j (omega arith) ek zero' half free _ _ st)
       go (no q) =
-          let st = write_step x.u (on_bus c j) ((e + j) % 16777216) (n - j) latch wr (ne_eqb (n - j) 1 q) x.m x.s true i low in
+          let st = write_step x.u (bus_at b j) ((b.e + j) % 16777216) (b.n - j) latch wr (ne_eqb (b.n - j) 1 q) x.m x.s true i low in
           moves st.granted (cycle_writes k g x j (omega arith) ek zero' half one free _ _ st)
   cycled k g x low i sound same (over ek q re ex ended free) =
       let st = quiet_step_lem x.u q x.m x.s true true i low in
@@ -174,16 +169,16 @@ module _ (W : ℕ → ℕ) (L : ℕ) (wide : 16 ≤ L) (within : L ≤ 24) (c e 
       subst (λ (q : ReuBusAction). Progress (bit_of (eqb (action_number q) 2) + k) g (after_tick t)) (sym e)
       (subst (λ (q : ℕ). Progress q g (after_tick t)) (sym (zero-add k)) p)
 
-  until : (k : ℕ) (g : ℕ → ℕ) (t : Ticked) (a : ReuBusAction) → k < 2 * n → Cycled k g t a → a ≡ Transfer
+  until : (k : ℕ) (g : ℕ → ℕ) (t : Ticked) (a : ReuBusAction) → k < 2 * b.n → Cycled k g t a → a ≡ Transfer
   until k g t a h (moves e p) = e
   until k g t a h (rests e ek p) = absurd (omega arith)
 
   -- COMMAND's bit 7 tells whether it is over, and so does the count
   pub record Over (k : ℕ) (g : ℕ → ℕ) (x : St) : Type 0 where
-    pub total : k ≡ 2 * n
+    pub total : k ≡ 2 * b.n
     pub quiet : Quiet x.u
     pub rewritten : Rewritten W g x.u
-    pub exch : Exch (on_bus c) (on_storage L e) n m₀ s₀ x.m x.s
+    pub exch : Clean b b.n x.m x.s
     pub ended : reg x.u 1 / 128 % 2 ≡ 0
     pub free : reg x.u 10 / 64 ≡ 0
 
@@ -195,13 +190,13 @@ module _ (W : ℕ → ℕ) (L : ℕ) (wide : 16 ≤ L) (within : L ≤ 24) (c e 
   over_of k g x sound (over ek q re ex ended free) en =
       record { total = ek; quiet = q; rewritten = re; exch = ex; ended = ended; free = free }
 
-  pub ended_of : (k : ℕ) (g : ℕ → ℕ) (x : St) → Sound x.u → Progress k g x → k ≡ 2 * n → Ended (held x)
+  pub ended_of : (k : ℕ) (g : ℕ → ℕ) (x : St) → Sound x.u → Progress k g x → k ≡ 2 * b.n → Ended (held x)
   ended_of k g x sound (reading j lt ek zero' rd ex one free) t = absurd (omega arith)
   ended_of k g x sound (writing j lt ek zero' wr half one free) t = absurd (omega arith)
   ended_of k g x sound (over ek q re ex ended free) t = reg_ended x sound ended
 
   -- any call that may come
-  pub step : (k : ℕ) (g : ℕ → ℕ) (x : St) {d : Kind} → Sound x.u → lines x.u.size ≡ L → number_of d x ≡ 0 → NumbersFit d → High d
+  pub step : (k : ℕ) (g : ℕ → ℕ) (x : St) {d : Kind} → Sound x.u → lines x.u.size ≡ b.L → number_of d x ≡ 0 → NumbersFit d → High d
       → Step (Ended (held x)) (λ a v. Ended (held x) × Allowed W a v) d → Progress k g x
       → Progress (bit_of (eqb (grant_of d (held x)) 2) + k) (λ r. bit_of (writes_to r d) + g r) (step_of d x)
   step k g x sound same z fi hi (reads {address = a} en) pr =
@@ -222,7 +217,7 @@ module _ (W : ℕ → ℕ) (L : ℕ) (wide : 16 ≤ L) (within : L ≤ 24) (c e 
       (sym (flag_high h hi.0)) (sym (flag_high p hi.1)) (cycled k g x (flag l) i sound same pr)))
 
   -- before it is over each cycle is granted
-  pub granted_until : (k : ℕ) (g : ℕ → ℕ) (x : St) (i : ℕ) → Sound x.u → lines x.u.size ≡ L → Progress k g x → k < 2 * n
+  pub granted_until : (k : ℕ) (g : ℕ → ℕ) (x : St) (i : ℕ) → Sound x.u → lines x.u.size ≡ b.L → Progress k g x → k < 2 * b.n
       → (core_bus_action x.u x.s true true i).0.action ≡ Transfer
   granted_until k g x i sound same pr h = until k g _ _ h (cycled k g x false i sound same pr)
 
@@ -257,72 +252,72 @@ module _ (x : St) (ready : Ready x) where
   pub one_byte : 1 ≤ len_of x.u
   one_byte = (length_range (word (reg x.u 7) (reg x.u 8)) (small_word 7 8)).0
 
-  pub few : len_of x.u ≤ 65536
-  few = (length_range (word (reg x.u 7) (reg x.u 8)) (small_word 7 8)).1
-
   -- the lines of the size that is set
   abbrev pub connected_lines : ℕ
   connected_lines = lines x.u.size
 
-  sized : Lines x.u.size
+  pub sized : Lines x.u.size
   sized = size_lines x.u.size ready.sound.size
 
-  pub wide : 16 ≤ connected_lines
-  wide = omega (arith, sized.fewest)
-
-  pub within : connected_lines ≤ 24
-  within = omega (arith, sized.most)
-
-  pub storage_long : length x.s ≡ 2 ^ connected_lines
-  storage_long = ready.storage.size ∙ sym sized.power
+  -- the block that the registers show
+  abbrev pub block : Block
+  block =
+      record {
+        L = connected_lines;
+        wide = omega (arith, sized.fewest);
+        within = omega (arith, sized.most);
+        c = c64_of x.u;
+        e = exp_of x.u;
+        n = len_of x.u;
+        few = (length_range (word (reg x.u 7) (reg x.u 8)) (small_word 7 8)).1;
+        bus = x.m;
+        storage = x.s;
+        bus_length = ready.bus.size;
+        storage_long = ready.storage.size ∙ sym sized.power;
+      }
 
   -- what a swap from x has come to, with the same size, and once it is over
   abbrev pub SwapFrom : ℕ → (ℕ → ℕ) → St → Type 0
-  SwapFrom k g y = Progress (reg x.u) connected_lines wide within (c64_of x.u) (exp_of x.u) (len_of x.u) few x.m x.s ready.bus.size storage_long k g y × (y.u.size ≡ x.u.size)
+  SwapFrom k g y = Progress (reg x.u) block k g y × (y.u.size ≡ x.u.size)
 
   abbrev pub OverFrom : ℕ → (ℕ → ℕ) → St → Type 0
-  OverFrom = Over (reg x.u) connected_lines wide within (c64_of x.u) (exp_of x.u) (len_of x.u) few x.m x.s ready.bus.size storage_long
+  OverFrom = Over (reg x.u) block
 
   pub over_from : (k : ℕ) (g : ℕ → ℕ) (y : St) → Sound y.u → SwapFrom k g y → Ended (held y) → OverFrom k g y
-  over_from k g y sound (pr, sz) en =
-      over_of (reg x.u) connected_lines wide within (c64_of x.u) (exp_of x.u) (len_of x.u) few x.m x.s ready.bus.size storage_long
-      k g y sound pr en
+  over_from k g y sound (pr, sz) en = over_of (reg x.u) block k g y sound pr en
 
   pub ended_from : (k : ℕ) (g : ℕ → ℕ) (y : St) → Sound y.u → SwapFrom k g y → k ≡ 2 * len_of x.u → Ended (held y)
-  ended_from k g y sound (pr, sz) all =
-      ended_of (reg x.u) connected_lines wide within (c64_of x.u) (exp_of x.u) (len_of x.u) few x.m x.s ready.bus.size storage_long
-      k g y sound pr all
+  ended_from k g y sound (pr, sz) all = ended_of (reg x.u) block k g y sound pr all
 
   pub granted_from : (k : ℕ) (g : ℕ → ℕ) (y : St) (i : ℕ) → Sound y.u → SwapFrom k g y → k < 2 * len_of x.u
       → (core_bus_action y.u y.s true true i).0.action ≡ Transfer
-  granted_from k g y i sound (pr, sz) h =
-      granted_until (reg x.u) connected_lines wide within (c64_of x.u) (exp_of x.u) (len_of x.u) few x.m x.s ready.bus.size storage_long
-      k g y i sound (ap lines sz) pr h
+  granted_from k g y i sound (pr, sz) h = granted_until (reg x.u) block k g y i sound (ap lines sz) pr h
 
   pub step_from : (k : ℕ) (g : ℕ → ℕ) (y : St) (d : Kind) → Sound y.u → number_of d y ≡ 0 → NumbersFit d → Swapping x (held y) (on y d) → SwapFrom k g y
       → SwapFrom (bit_of (eqb (grant_of d (held y)) 2) + k) (λ r. bit_of (writes_to r d) + g r) (step_of d y)
   step_from k g y d sound z fi p (pr, sz) = (
-    step (reg x.u) connected_lines wide within (c64_of x.u) (exp_of x.u) (len_of x.u) few x.m x.s ready.bus.size storage_long
-        k g y sound (ap lines sz) z fi p.0 p.1 pr,
+    step (reg x.u) block k g y sound (ap lines sz) z fi p.0 p.1 pr,
     keeps_size d y (step_steady p.1) ∙ sz,
   )
+
+  -- a swap that is to read its first byte
+  pub first_stands : {w : Reu} → Reading w (c64_of x.u) (exp_of x.u) (len_of x.u) → Reading w (bus_at block 0) ((block.e + 0) % 16777216) (block.n - 0)
+  first_stands {w} h =
+      let small : word (reg x.u 2) (reg x.u 3) < 65536 = small_word 2 3 in
+      let small' : word (reg x.u 4) (reg x.u 5) < 65536 = small_word 4 5 in
+      let bank : reg x.u 6 < 256 = (ready.sound.regs.fits 6).byte in
+      let ec : c64_of x.u ≡ bus_at block 0 = omega arith in
+      let ee : exp_of x.u ≡ (block.e + 0) % 16777216 = omega arith in
+      let er : len_of x.u ≡ block.n - 0 = omega arith in
+      subst₃ (Reading w) ec ee er h
 
   -- the start
   pub begins : Idling x → {d : Kind} → SwapsAtOnce d → SwapFrom 0 (λ r. 0) (step_of d x)
   begins i (swaps {address = a} {value = v} one type now go) =
       let go' : v / 128 % 2 ≡ 1 = bit_one v 7 go in
       let b : Begun x.u v (write_register x.u a v)
-      = start_law x.u v ready.sound.regs.len i.attached i.free type now go a one in
-      let small : word (reg x.u 2) (reg x.u 3) < 65536 = small_word 2 3 in
-      let small' : word (reg x.u 4) (reg x.u 5) < 65536 = small_word 4 5 in
-      let bank : reg x.u 6 < 256 = (ready.sound.regs.fits 6).byte in
-      let ec : c64_of x.u ≡ on_bus (c64_of x.u) 0 = omega arith in
-      let ee : exp_of x.u ≡ (exp_of x.u + 0) % 16777216 = omega arith in
-      let er : len_of x.u ≡ len_of x.u - 0 = omega arith in (
-        reading 0 one_byte refl (λ r. refl)
-            (subst (λ (q : ℕ). Reading (write_register x.u a v) (on_bus (c64_of x.u) 0) ((exp_of x.u + 0) % 16777216) q) er
-            (subst₂ (λ (q q' : ℕ). Reading (write_register x.u a v) q q' (len_of x.u)) ec ee b.reading))
-            (exch_zero (on_bus (c64_of x.u)) (on_storage connected_lines (exp_of x.u)) x.m x.s)
+      = start_law x.u v ready.sound.regs.len i.attached i.free type now go a one in (
+        reading 0 one_byte refl (λ r. refl) (first_stands b.reading) (exch_zero (bus_at block) (storage_at block) x.m x.s)
             (ap (λ (q : ℕ). q / 128 % 2) b.command ∙ go') (ap (λ (q : ℕ). q / 64) b.control ∙ i.free),
         keeps_size (write a v) x tt,
       )

@@ -10,7 +10,7 @@ use lib.Seq.{get_or-set_same, get_or-set_other}
 use lib.Dec.{eqb}
 use native.Mathlib.Omega.{arith}
 use native.Mathlib.Decide.{ℕ_discrete}
-use borrow.Author.Tests.{ne_eqb, leb-true, leb-false, lt-leb}
+use borrow.Author.Tests.{both_ways, ne_eqb, leb-true, leb-false, lt-leb}
 use Rattle.transfer.specs.Bytes.{bit}
 use Rattle.transfer.specs.Memory.{is_size}
 use Rattle.controller.specs.Enable.{new_reu, set_size as core_set_size, connected}
@@ -29,10 +29,10 @@ use Rattle.claims.proofs.Accepted.{leaves_is, ready_number, ready_step}
 use Rattle.claims.proofs.Look.{reg_byte, armed_bit, late_bit, size_byte, can_start, opened, size_is, opened_ready, opened_is, opened_attached, opened_free}
 use Rattle.claims.proofs.Swap.{len_of}
 use Rattle.claims.proofs.Outcome.{block_length_lem, bus_place_lem, storage_place_lem}
-use Rattle.claims.proofs.SomeRuns.{enabled_new, enabled_sound, some_start}
+use Rattle.claims.proofs.SomeRuns.{enabled_new, enabled_sound, some_start as idle_start}
 use Rattle.claims.proofs.Sessions.{AllFit, to, start, calls_computed, late_fall, played, ready_played}
 use Rattle.claims.proofs.ScreenStart.{opens, opens_ready, opens_is, first_is, first_runs, first_left, accepted}
-use Rattle.claims.proofs.ScreenRun.{clash, shown_exchanged, same_count, completes, ends_high, ends_there, second_runs}
+use Rattle.claims.proofs.ScreenRun.{shown_exchanged, same_count, completes, ends_high, ends_there, second_runs}
 
 -- ---- courses of BA
 
@@ -44,11 +44,11 @@ courses k d f high c on a t l touches = go (ℕ_discrete t 1)
     here = sym (on a) ∙ l.low a (omega arith) (omega (arith, l.some))
 
     none : (b : ℕ) → a ≡ b → t ≡ 1 → ⊥
-    none zero q one = clash (high 0) c.first (subst (λ (y : ℕ). high y ≡ false) q here)
+    none zero q one = both_ways (high 0) (subst (λ (y : ℕ). high y ≡ false) q here) c.first
     none (suc b) q one =
         let next : a + t ≡ suc (suc b) = omega arith in
-        clash (high (suc (suc b))) (subst (λ (y : ℕ). high y ≡ true) next (sym (on (a + t)) ∙ l.behind))
-        (c.pairs b (sym (on b) ∙ l.before b q) (subst (λ (y : ℕ). high y ≡ false) q here))
+        both_ways (high (suc (suc b))) (c.pairs b (sym (on b) ∙ l.before b q) (subst (λ (y : ℕ). high y ≡ false) q here))
+        (subst (λ (y : ℕ). high y ≡ true) next (sym (on (a + t)) ∙ l.behind))
 
     go : Dec (t ≡ 1) → 2 ≤ t
     go (yes one) = absurd (none a refl one)
@@ -113,9 +113,9 @@ dip_course = record { first = refl; pairs = pairs }
   where
     pairs : (i : ℕ) → dip i ≡ true → dip (suc i) ≡ false → dip (suc (suc i)) ≡ false
     pairs zero h l = refl
-    pairs (suc zero) h l = clash false h refl
-    pairs (suc (suc zero)) h l = clash false h refl
-    pairs (suc (suc (suc i))) h l = clash true refl l
+    pairs (suc zero) h l = absurd (both_ways false refl h)
+    pairs (suc (suc zero)) h l = absurd (both_ways false refl h)
+    pairs (suc (suc (suc i))) h l = absurd (both_ways true l refl)
 
 dip_high : (i : ℕ) → 3 ≤ i → dip i ≡ true
 unfolding dip
@@ -182,12 +182,12 @@ some_run k d st late w shown =
 
 -- ---- there are starts of both kinds
 
-some_start_lem : (size : ℕ) → is_size size ≡ true → (m s : List ℕ) → Memories size m s
+some_start : (size : ℕ) → is_size size ≡ true → (m s : List ℕ) → Memories size m s
     → let k : Held = record { image = pack_image (connected (core_set_size new_reu size)); bus = m; storage = s } in CanStart k × LateClear k
 unfolding core_set_size enabled_new
-some_start_lem size h m s mem =
+some_start size h m s mem =
     let x : St = record { u = connected (core_set_size new_reu size); m = m; s = s } in
-    ((some_start size h m s mem).can, late_bit x (enabled_sound size h))
+    ((idle_start size h m s mem).can, late_bit x (enabled_sound size h))
 
 some_command : (k : Held) → CanStart k → SwapStart k (write 1 0x92)
 some_command k st = record { can = st; starts = by_command (swaps refl refl refl refl); numbers = omega arith }
@@ -338,7 +338,7 @@ swap_on_screen =
       courses = courses;
       some_calls = some_calls;
       some_run = some_run;
-      some_start = some_start_lem;
+      some_start = some_start;
       some_command = some_command;
       some_ff00 = some_ff00;
       r16_shows_why = r16_shows_why;
