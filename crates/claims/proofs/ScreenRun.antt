@@ -243,7 +243,7 @@ module _ (k : Held) (d : Kind) (st : SwapStart k d) (f : ℕ → Told) (tl : Two
   -- on a screen, from a call s on that is the first high one of a stretch
   module _ (o s : ℕ) (first : (o + s) % 504 ≡ 40) (on : (i : ℕ) → high_at f i ≡ screen o i) where
     high_there : (q i : ℕ) → s + 504 * q ≤ i → i < s + 504 * q + 464 → high_at f i ≡ true
-    high_there q i lo hi = on i ∙ le-leb 40 ((o + i) % 504) (omega arith)
+    high_there q i lo hi = on i ∙ le-leb _ ((o + i) % 504) (omega arith)
 
     screens : (q b : ℕ) → b ≤ n → b ≤ 232 * q → b ≤ bytes (s + 504 * q)
     screens zero b all h = omega arith

@@ -60,9 +60,9 @@ screens o h = record { first = h; pairs = pairs }
   where
     pairs : (i : ℕ) → screen o i ≡ true → screen o (suc i) ≡ false → screen o (suc (suc i)) ≡ false
     pairs i hi lo =
-        let a = leb-true 40 ((o + i) % 504) hi in
-        let b = leb-false 40 ((o + suc i) % 504) lo in
-        lt-leb 40 ((o + suc (suc i)) % 504) (omega (arith, a, b))
+        let a = leb-true _ ((o + i) % 504) hi in
+        let b = leb-false _ ((o + suc i) % 504) lo in
+        lt-leb _ ((o + suc (suc i)) % 504) (omega (arith, a, b))
 
 -- ---- there are such calls
 
