@@ -3,19 +3,16 @@ use Prim.Native.Nat.{ℕ, zero, suc, ◌+◌, ◌-◌, ◌*◌, ◌/◌, ◌%◌
 use mathlib.Core.Bool.{Bool, true, false}
 use mathlib.Core.Path.{◌≡◌, refl, sym, ap, ◌∙◌, subst, subst₂}
 use mathlib.Core.Logic.{◌⊎◌, inl, inr}
-use lib.ListN.{length}
 use native.Mathlib.Omega.{arith}
 use native.Mathlib.Decide.{ℕ_discrete}
 use borrow.Author.Tests.{both_ways, le-leb}
 use Rattle.transfer.specs.Bytes.{bit}
 use Rattle.transfer.specs.Memory.{lines}
-use Rattle.transfer.specs.declared.dma.SwapPhase.TheVariants.{ReadC64}
 use Rattle.controller.specs.Reu.{reg}
 use Rattle.reu.specs.Exports.{flag}
-use Rattle.claims.specs.Calls.{Held, Kind}
+use Rattle.claims.specs.Calls.{Held}
 use Rattle.claims.specs.SwapTwice.{byte, size_set, ShownAll, Exchanged, Ended}
-use Rattle.claims.specs.SwapOnScreen.{SwapStart, Told, held_at, Runs, high_at, TwoLow, left, occurrences, screen}
-use Rattle.claims.proofs.CycleLaw.{Stands}
+use Rattle.claims.specs.SwapOnScreen.{SwapStart, ScreenTime, held_at, Runs, high_at, TwoLow, left, occurrences, screen}
 use Rattle.claims.proofs.Exchange.{exch_zero}
 use Rattle.claims.proofs.Places.{Block, bus_at, storage_at, Clean, clean_count}
 use Rattle.claims.proofs.States.{St, Ready}
@@ -25,12 +22,12 @@ use Rattle.claims.proofs.BaSwap.{previous, Going, Progress, reading, Live, Over,
 use Rattle.claims.proofs.Outcome.{shown_block}
 use Rattle.claims.proofs.ScreenStart.{opens, opens_ready, opens_is, first, began, first_going, state, state_ready, state_size, state_is}
 
-module _ (k : Held) (d : Kind) (st : SwapStart k d) (f : ℕ → Told) (tl : TwoLow k d f) where
+module _ (t : ScreenTime) (st : SwapStart t.before t.start) (tl : TwoLow t) where
   abbrev x : St
-  x = opens k d st
+  x = opens t.before t.start st
 
   abbrev r : Ready x
-  r = opens_ready k d st
+  r = opens_ready t.before t.start st
 
   -- the block, and what BA was before the first call
   abbrev blk : Block
@@ -40,79 +37,79 @@ module _ (k : Held) (d : Kind) (st : SwapStart k d) (f : ℕ → Told) (tl : Two
   n = blk.n
 
   abbrev w₀ : Bool
-  w₀ = (first k d st).u.ba_was_high
+  w₀ = (first t.before t.start st).u.ba_was_high
 
   abbrev at : ℕ → St
-  at = state k d st f
+  at = state t st
 
   abbrev ready : (i : ℕ) → Ready (at i)
-  ready = state_ready k d st f
+  ready = state_ready t st
 
   abbrev Swapping : ℕ → ℕ → St → Type 0
-  Swapping = Progress blk w₀ (high_at f)
+  Swapping = Progress blk w₀ (high_at t)
 
   abbrev Seen : ℕ → St → Type 0
   Seen j y =
-      Live blk w₀ (high_at f) j y
-      ⊎ Over blk w₀ (high_at f) j y
+      Live blk w₀ (high_at t) j y
+      ⊎ Over blk w₀ (high_at t) j y
 
   abbrev Turned : (j i : ℕ) (y : St) → Swapping j i y → St → Type 0
   Turned j i y p z =
-      Stepped blk w₀ (high_at f) p z
+      Stepped blk w₀ (high_at t) p z
 
   abbrev WritesNext : (j i : ℕ) (y : St) → Swapping j i y → Type 0
   WritesNext j i y p =
-      IsWriting blk w₀ (high_at f) p
+      IsWriting blk w₀ (high_at t) p
 
   -- how many bytes are done before call i, and how the swap stands
   record Reached (i : ℕ) : Type 0 where
     pub j : ℕ
     pub here : Swapping j i (at i)
 
-  command_is : (i : ℕ) → byte (held_at k d f i) 1 ≡ reg (at i).u 1
-  command_is i = ap (λ (h : Held). byte h 1) (state_is k d st f i) ∙ reg_byte (at i) (ready i).sound 1 (omega arith)
+  command_is : (i : ℕ) → byte (held_at t i) 1 ≡ reg (at i).u 1
+  command_is i = ap (λ (h : Held). byte h 1) (state_is t st i) ∙ reg_byte (at i) (ready i).sound 1 (omega arith)
 
-  live_runs : (i : ℕ) → Going (at i) → Runs (held_at k d f i)
+  live_runs : (i : ℕ) → Going (at i) → Runs (held_at t i)
   live_runs i g = ap (λ (v : ℕ). bit v 7) (command_is i) ∙ one_bit (reg (at i).u 1) 7 g
 
-  previous_high : (i b : ℕ) → previous w₀ (high_at f) i ≡ true → i ≡ suc b → high_at f b ≡ true
+  previous_high : (i b : ℕ) → previous w₀ (high_at t) i ≡ true → i ≡ suc b → high_at t b ≡ true
   previous_high zero b p q = absurd (omega arith)
-  previous_high (suc i) b p q = let s : i ≡ b = omega arith in subst (λ (y : ℕ). high_at f y ≡ true) s p
+  previous_high (suc i) b p q = let s : i ≡ b = omega arith in subst (λ (y : ℕ). high_at t y ≡ true) s p
 
   -- a fall while the command runs is followed by another low call
-  second_low : (i : ℕ) → Going (at i) → previous w₀ (high_at f) i ≡ true → high_at f i ≡ false → high_at f (suc i) ≡ false
-  second_low i g p b = go (high_at f (suc i)) refl
+  second_low : (i : ℕ) → Going (at i) → previous w₀ (high_at t) i ≡ true → high_at t i ≡ false → high_at t (suc i) ≡ false
+  second_low i g p b = go (high_at t (suc i)) refl
     where
-      low : (y : ℕ) → i ≤ y → y < i + 1 → high_at f y ≡ false
-      low y lo hi = let s : i ≡ y = omega arith in subst (λ (z : ℕ). high_at f z ≡ false) s b
+      low : (y : ℕ) → i ≤ y → y < i + 1 → high_at t y ≡ false
+      low y lo hi = let s : i ≡ y = omega arith in subst (λ (z : ℕ). high_at t z ≡ false) s b
 
       next : suc i ≡ i + 1
       next = omega arith
 
-      go : (h : Bool) → high_at f (suc i) ≡ h → high_at f (suc i) ≡ false
+      go : (h : Bool) → high_at t (suc i) ≡ h → high_at t (suc i) ≡ false
       go false s = s
       go true s =
           let two =
           tl i 1
-          (record { some = omega arith; low = low; before = λ y t. previous_high i y p t; behind = subst (λ (y : ℕ). high_at f y ≡ true) next s })
+          (record { some = omega arith; low = low; before = λ y q. previous_high i y p q; behind = subst (λ (y : ℕ). high_at t y ≡ true) next s })
           (i, omega arith, omega arith, live_runs i g) in
           absurd (omega (arith, two))
 
   turned : (i : ℕ) (p : Reached i) → Turned p.j i (at i) p.here (at (suc i))
   unfolding state
   turned i p =
-      step blk w₀ (high_at f) p.j i (at i)
-      (ap lines (state_size k d st f i)) (second_low i) (ready i).sound.regs.len (flag (f i).high) (flag (f i).low) (f i).number p.here
+      step blk w₀ (high_at t) p.j i (at i)
+      (ap lines (state_size t st i)) (second_low i) (ready i).sound.regs.len (flag (t.told i).high) (flag (t.told i).low) (t.told i).number p.here
 
   first_reached : Reached 0
   unfolding state first
   first_reached =
-      let b = began k d st in
+      let b = began t.before t.start st in
       let h = first_stands x r b.begun.reading in
       record {
         j = 0;
         here =
-            reading h.latch (record { lt = omega (arith, one_byte x r); history = refl; going = first_going k d st; stands = h.stands })
+            reading h.latch (record { lt = omega (arith, one_byte x r); history = refl; going = first_going t.before t.start st; stands = h.stands })
             (subst₂ (Clean blk 0) (sym b.bus) (sym b.storage) (exch_zero (bus_at blk) (storage_at blk) x.m x.s));
       }
 
@@ -126,67 +123,67 @@ module _ (k : Held) (d : Kind) (st : SwapStart k d) (f : ℕ → Told) (tl : Two
 
   seen : (i : ℕ) → Seen (bytes i) (at i)
   seen i =
-      view blk w₀ (high_at f)
+      view blk w₀ (high_at t)
       (bytes i) i (at i) (reach i).here
 
   -- ---- COMMAND's bit 7, and the bytes that are left
 
-  over_ended : (i : ℕ) → reg (at i).u 1 / 128 % 2 ≡ 0 → Ended (held_at k d f i)
-  over_ended i o = subst Ended (sym (state_is k d st f i)) (reg_ended (at i) (ready i).sound o)
+  over_ended : (i : ℕ) → reg (at i).u 1 / 128 % 2 ≡ 0 → Ended (held_at t i)
+  over_ended i o = subst Ended (sym (state_is t st i)) (reg_ended (at i) (ready i).sound o)
 
-  runs_few : (i : ℕ) → Runs (held_at k d f i) → bytes i < n
+  runs_few : (i : ℕ) → Runs (held_at t i) → bytes i < n
   runs_few i r = go (seen i)
     where
       go : Seen (bytes i) (at i) → bytes i < n
       go (inl v) = v.lt
       go (inr v) = absurd (both_ways _ (over_ended i v.ended) r)
 
-  few_runs : (i : ℕ) → bytes i < n → Runs (held_at k d f i)
+  few_runs : (i : ℕ) → bytes i < n → Runs (held_at t i)
   few_runs i h = go (seen i)
     where
-      go : Seen (bytes i) (at i) → Runs (held_at k d f i)
+      go : Seen (bytes i) (at i) → Runs (held_at t i)
       go (inl v) = live_runs i v.going
       go (inr v) = absurd (omega (arith, h, v.total))
 
-  all_ended : (i : ℕ) → n ≤ bytes i → Ended (held_at k d f i)
+  all_ended : (i : ℕ) → n ≤ bytes i → Ended (held_at t i)
   all_ended i h = go (seen i)
     where
-      go : Seen (bytes i) (at i) → Ended (held_at k d f i)
+      go : Seen (bytes i) (at i) → Ended (held_at t i)
       go (inl v) = absurd (omega (arith, h, v.lt))
       go (inr v) = over_ended i v.ended
 
-  counted : (i : ℕ) → (bytes i ≤ n) × (left (held_at k d f i) ≡ n - bytes i)
+  counted : (i : ℕ) → (bytes i ≤ n) × (left (held_at t i) ≡ n - bytes i)
   counted i = go (seen i)
     where
-      go : Seen (bytes i) (at i) → (bytes i ≤ n) × (left (held_at k d f i) ≡ n - bytes i)
+      go : Seen (bytes i) (at i) → (bytes i ≤ n) × (left (held_at t i) ≡ n - bytes i)
       go (inl v) = (
         omega (arith, v.lt),
-        ap left (state_is k d st f i) ∙ left_some (at i) (ready i).sound v.state v.transfer ∙ v.remaining,
+        ap left (state_is t st i) ∙ left_some (at i) (ready i).sound v.state v.transfer ∙ v.remaining,
       )
       go (inr v) = (
         omega (arith, v.total),
-        ap left (state_is k d st f i) ∙ left_none (at i) (ready i).sound v.quiet.idle ∙ omega (arith, v.total),
+        ap left (state_is t st i) ∙ left_none (at i) (ready i).sound v.quiet.idle ∙ omega (arith, v.total),
       )
 
   -- ---- when it has ended
 
-  pub exchanged : (i : ℕ) → Ended (held_at k d f i)
-      → Clean blk n (held_at k d f i).bus (held_at k d f i).storage
+  pub exchanged : (i : ℕ) → Ended (held_at t i)
+      → Clean blk n (held_at t i).bus (held_at t i).storage
   exchanged i en =
-      subst (λ (h : Held). Clean blk n h.bus h.storage) (sym (state_is k d st f i)) (go (seen i))
+      subst (λ (h : Held). Clean blk n h.bus h.storage) (sym (state_is t st i)) (go (seen i))
     where
       go : Seen (bytes i) (at i) → Clean blk n (at i).m (at i).s
       go (inl v) = absurd (both_ways _ en (live_runs i v.going))
       go (inr v) = v.exch
 
-  pub shown_exchanged : (w : ℕ → ℕ) → ShownAll k w → (i : ℕ) → Ended (held_at k d f i) → Exchanged w k (held_at k d f i)
+  pub shown_exchanged : (w : ℕ → ℕ) → ShownAll t.before w → (i : ℕ) → Ended (held_at t i) → Exchanged w t.before (held_at t i)
   unfolding opens
   shown_exchanged w shown i en =
-      shown_block k x (sym (opens_is k d st)) r.sound w shown (size_set k) (sym (size_is k st.can)) k (held_at k d f i) refl (exchanged i en)
+      shown_block t.before x (sym (opens_is t.before t.start st)) r.sound w shown (size_set t.before) (sym (size_is t.before st.can)) t.before (held_at t i) refl (exchanged i en)
 
-  pub same_count : (i v : ℕ) → Ended (held_at k d f i) → occurrences v (held_at k d f i) ≡ occurrences v k
+  pub same_count : (i v : ℕ) → Ended (held_at t i) → occurrences v (held_at t i) ≡ occurrences v t.before
   unfolding opens
-  same_count i v en = clean_count blk v (held_at k d f i).bus (held_at k d f i).storage (exchanged i en)
+  same_count i v en = clean_count blk v (held_at t i).bus (held_at t i).storage (exchanged i en)
 
   -- ---- two high calls in a row complete a byte
 
@@ -194,16 +191,16 @@ module _ (k : Held) (d : Kind) (st : SwapStart k d) (f : ℕ → Told) (tl : Two
   unfolding reach
   more i = (turned i (reach i)).more
 
-  later : (i t : ℕ) → bytes i ≤ bytes (t + i)
+  later : (i m : ℕ) → bytes i ≤ bytes (m + i)
   later i zero = let q : i ≡ 0 + i = omega arith in subst (λ (y : ℕ). bytes i ≤ bytes y) q (omega arith)
-  later i (suc t) =
-      let q : suc (t + i) ≡ suc t + i = omega arith in
-      subst (λ (y : ℕ). bytes i ≤ bytes y) q (omega (arith, later i t, more (t + i)))
+  later i (suc m) =
+      let q : suc (m + i) ≡ suc m + i = omega arith in
+      subst (λ (y : ℕ). bytes i ≤ bytes y) q (omega (arith, later i m, more (m + i)))
 
   upwards : (a b : ℕ) → a ≤ b → bytes a ≤ bytes b
   upwards a b h = let q : b - a + a ≡ b = omega arith in subst (λ (y : ℕ). bytes a ≤ bytes y) q (later a (b - a))
 
-  two_high : (i : ℕ) → bytes i < n → high_at f i ≡ true → high_at f (suc i) ≡ true → bytes i < bytes (suc (suc i))
+  two_high : (i : ℕ) → bytes i < n → high_at t i ≡ true → high_at t (suc i) ≡ true → bytes i < bytes (suc (suc i))
   unfolding reach
   two_high i lt h h' = go ((turned i (reach i)).moves h lt)
     where
@@ -212,37 +209,37 @@ module _ (k : Held) (d : Kind) (st : SwapStart k d) (f : ℕ → Told) (tl : Two
       go (inl l) = omega (arith, l, more (suc i))
       go (inr w) = omega (arith, (turned i (reach i)).more, (turned (suc i) (reach (suc i))).fires w h h')
 
-  pub completes : (a t : ℕ) → 2 ≤ t → Runs (held_at k d f a) → ((i : ℕ) → a ≤ i → i < a + t → high_at f i ≡ true)
-      → left (held_at k d f (a + t)) < left (held_at k d f a)
-  completes a t two r hi =
+  pub completes : (a m : ℕ) → 2 ≤ m → Runs (held_at t a) → ((i : ℕ) → a ≤ i → i < a + m → high_at t i ≡ true)
+      → left (held_at t (a + m)) < left (held_at t a)
+  completes a m two r hi =
       let lt = runs_few a r in
       let b = two_high a lt (hi a (omega arith) (omega arith)) (hi (suc a) (omega arith) (omega arith)) in
-      omega (arith, lt, b, upwards (suc (suc a)) (a + t) (omega arith), (counted a).1, (counted (a + t)).1, (counted (a + t)).0)
+      omega (arith, lt, b, upwards (suc (suc a)) (a + m) (omega arith), (counted a).1, (counted (a + m)).1, (counted (a + m)).0)
 
   -- ---- it ends
 
-  one_more : (y b : ℕ) → b ≤ n → b - 1 ≤ bytes y → high_at f y ≡ true → high_at f (suc y) ≡ true → b ≤ bytes (suc (suc y))
+  one_more : (y b : ℕ) → b ≤ n → b - 1 ≤ bytes y → high_at t y ≡ true → high_at t (suc y) ≡ true → b ≤ bytes (suc (suc y))
   one_more y b all h hi hi' = go (ℕ_discrete (bytes y) n)
     where
       go : Dec (bytes y ≡ n) → b ≤ bytes (suc (suc y))
       go (yes q) = omega (arith, all, q, more y, more (suc y))
       go (no ne) = let lt : bytes y < n = omega (arith, (counted y).0, ne) in omega (arith, h, two_high y lt hi hi')
 
-  -- 2t high calls from call a on complete t bytes, or all that are left
-  high_run : (a t : ℕ) → ((i : ℕ) → a ≤ i → i < a + 2 * t → high_at f i ≡ true) → (b : ℕ) → b ≤ n → b ≤ bytes a + t → b ≤ bytes (a + 2 * t)
+  -- 2m high calls from call a on complete m bytes, or all that are left
+  high_run : (a m : ℕ) → ((i : ℕ) → a ≤ i → i < a + 2 * m → high_at t i ≡ true) → (b : ℕ) → b ≤ n → b ≤ bytes a + m → b ≤ bytes (a + 2 * m)
   high_run a zero hi b all h = let q : a ≡ a + 2 * 0 = omega arith in subst (λ (y : ℕ). b ≤ bytes y) q (omega arith)
-  high_run a (suc t) hi b all h =
-      let before : b - 1 ≤ bytes (a + 2 * t) = high_run a t (λ i lo lt. hi i lo (omega arith)) (b - 1) (omega arith) (omega arith) in
-      let next : suc (suc (a + 2 * t)) ≡ a + 2 * suc t = omega arith in
+  high_run a (suc m) hi b all h =
+      let before : b - 1 ≤ bytes (a + 2 * m) = high_run a m (λ i lo lt. hi i lo (omega arith)) (b - 1) (omega arith) (omega arith) in
+      let next : suc (suc (a + 2 * m)) ≡ a + 2 * suc m = omega arith in
       subst (λ (z : ℕ). b ≤ bytes z) next
-      (one_more (a + 2 * t) b all before (hi (a + 2 * t) (omega arith) (omega arith)) (hi (suc (a + 2 * t)) (omega arith) (omega arith)))
+      (one_more (a + 2 * m) b all before (hi (a + 2 * m) (omega arith) (omega arith)) (hi (suc (a + 2 * m)) (omega arith) (omega arith)))
 
-  pub ends_high : (a : ℕ) → ((i : ℕ) → a ≤ i → i < a + 2 * n → high_at f i ≡ true) → Ended (held_at k d f (a + 2 * n))
+  pub ends_high : (a : ℕ) → ((i : ℕ) → a ≤ i → i < a + 2 * n → high_at t i ≡ true) → Ended (held_at t (a + 2 * n))
   ends_high a hi = all_ended (a + 2 * n) (high_run a n hi n (omega arith) (omega arith))
 
   -- on a screen, from a call s on that is the first high one of a stretch
-  module _ (o s : ℕ) (first : (o + s) % 504 ≡ 40) (on : (i : ℕ) → high_at f i ≡ screen o i) where
-    high_there : (q i : ℕ) → s + 504 * q ≤ i → i < s + 504 * q + 464 → high_at f i ≡ true
+  module _ (o s : ℕ) (first : (o + s) % 504 ≡ 40) (on : (i : ℕ) → high_at t i ≡ screen o i) where
+    high_there : (q i : ℕ) → s + 504 * q ≤ i → i < s + 504 * q + 464 → high_at t i ≡ true
     high_there q i lo hi = on i ∙ le-leb _ ((o + i) % 504) (omega arith)
 
     screens : (q b : ℕ) → b ≤ n → b ≤ 232 * q → b ≤ bytes (s + 504 * q)
@@ -253,12 +250,12 @@ module _ (k : Held) (d : Kind) (st : SwapStart k d) (f : ℕ → Told) (tl : Two
         omega (arith, run, upwards (s + 504 * q + 2 * 232) (s + 504 * suc q) (omega arith))
 
     -- whatever is left over is done in one time more
-    pub ends_there : (t : ℕ) → s + 504 * (n / 232 + 1) ≤ t → Ended (held_at k d f t)
-    ends_there t h =
+    pub ends_there : (i : ℕ) → s + 504 * (n / 232 + 1) ≤ i → Ended (held_at t i)
+    ends_there i h =
         let all : n ≤ bytes (s + 504 * (n / 232 + 1)) = screens (n / 232 + 1) n (omega arith) (omega arith) in
-        all_ended t (omega (arith, all, upwards (s + 504 * (n / 232 + 1)) t h))
+        all_ended i (omega (arith, all, upwards (s + 504 * (n / 232 + 1)) i h))
 
   -- the first call completes no byte, so a command of any length runs on
-  pub second_runs : Runs (held_at k d f 1)
+  pub second_runs : Runs (held_at t 1)
   unfolding reach first_reached
   second_runs = few_runs 1 (omega (arith, (turned 0 (reach 0)).slow tt, one_byte x r))

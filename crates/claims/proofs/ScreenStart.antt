@@ -9,9 +9,9 @@ use Rattle.reu.specs.Exports.{flag}
 use Rattle.claims.specs.Constants.{flags_byte}
 use Rattle.claims.specs.Calls.{Held, Kind, does}
 use Rattle.claims.specs.SwapTwice.{byte, swaps}
-use Rattle.claims.specs.SwapOnScreen.{Starts, by_command, by_ff00, SwapStart, Told, cycle_of, held_at, Accepts, Runs, left}
+use Rattle.claims.specs.SwapOnScreen.{Starts, by_command, by_ff00, SwapStart, ScreenTime, cycle_of, held_at, Accepts, Runs, left}
 use Rattle.claims.proofs.RegisterLaw.{Begun, start_law, trigger_law}
-use Rattle.claims.proofs.States.{St, held, step_of, value_of, Steady, keeps_size, Ready, cycle_left}
+use Rattle.claims.proofs.States.{St, held, step_of, value_of, number_of, Steady, keeps_size, Ready, cycle_left}
 use Rattle.controller.proofs.Checked.{step_most}
 use Rattle.controller.specs.Cycle.{run_reu_cycle}
 use Rattle.reu.specs.Exports.{refusal_unit}
@@ -77,6 +77,16 @@ module _ (k : Held) (d : Kind) (st : SwapStart k d) where
             storage = refl;
           }
 
+  start_number : number_of d opens ≡ 0
+  start_number = ready_number opens opens_ready d (starts_steady st.starts)
+
+  pub start_accepted : Accepts d k
+  start_accepted = subst (Accepts d) opens_is (is_accepted opens opens_ready.sound d start_number (small st.starts))
+    where
+      small : {e : Kind} → Starts k e → value_of e opens < refusal_unit
+      small (by_command (swaps one type now go)) = omega arith
+      small (by_ff00 a) = omega arith
+
   unfoldable pub first : St
   first = step_of d opens
 
@@ -90,7 +100,7 @@ module _ (k : Held) (d : Kind) (st : SwapStart k d) where
 
   pub first_is : (does d k).left ≡ held first
   unfolding first
-  first_is = ap (λ (h : Held). (does d h).left) (sym opens_is) ∙ leaves_is opens opens_ready.sound d (ready_number opens opens_ready d (starts_steady st.starts))
+  first_is = ap (λ (h : Held). (does d h).left) (sym opens_is) ∙ leaves_is opens opens_ready.sound d start_number
 
   -- it runs, with all of the block left
   pub first_going : Going first
@@ -104,47 +114,43 @@ module _ (k : Held) (d : Kind) (st : SwapStart k d) where
   unfolding first
   first_left = left_some first first_ready.sound _ began.begun.reading.stands.transfer
 
-  -- ---- what is held before each call
+-- ---- what is held before each call
 
-  module _ (f : ℕ → Told) where
-    unfoldable pub state : ℕ → St
-    state zero = first
-    state (suc i) = step_of (cycle_of (f i)) (state i)
+module _ (t : ScreenTime) (st : SwapStart t.before t.start) where
+  unfoldable pub state : ℕ → St
+  state zero = first t.before t.start st
+  state (suc i) = step_of (cycle_of (t.told i)) (state i)
 
-    pub state_ready : (i : ℕ) → Ready (state i)
-    unfolding state
-    state_ready zero = first_ready
-    state_ready (suc i) = cycle_left (state i) (state_ready i) (f i).high (f i).number (f i).low (f i).phi1
+  pub state_ready : (i : ℕ) → Ready (state i)
+  unfolding state
+  state_ready zero = first_ready t.before t.start st
+  state_ready (suc i) = let c = t.told i in cycle_left (state i) (state_ready i) c.high c.number c.low c.phi1
 
-    pub state_size : (i : ℕ) → (state i).u.size ≡ opens.u.size
-    unfolding state
-    state_size zero = first_size
-    state_size (suc i) = keeps_size (cycle_of (f i)) (state i) tt ∙ state_size i
+  pub state_size : (i : ℕ) → (state i).u.size ≡ (opens t.before t.start st).u.size
+  unfolding state
+  state_size zero = first_size t.before t.start st
+  state_size (suc i) = keeps_size (cycle_of (t.told i)) (state i) tt ∙ state_size i
 
-    pub state_is : (i : ℕ) → held_at k d f i ≡ held (state i)
-    unfolding held_at state
-    state_is zero = first_is
-    state_is (suc i) =
-        ap (λ (h : Held). (does (cycle_of (f i)) h).left) (state_is i)
-        ∙ leaves_is (state i) (state_ready i).sound (cycle_of (f i)) (ready_number (state i) (state_ready i) (cycle_of (f i)) tt)
+  state_number : (i : ℕ) → number_of (cycle_of (t.told i)) (state i) ≡ 0
+  state_number i = ready_number (state i) (state_ready i) (cycle_of (t.told i)) tt
 
-    -- none is refused
-    pub accepted : (i : ℕ) → Accepts d k × Accepts (cycle_of (f i)) (held_at k d f i)
-    accepted i = (
-      subst (Accepts d) opens_is (is_accepted opens opens_ready.sound d (ready_number opens opens_ready d (starts_steady st.starts)) start_small),
-      subst (Accepts (cycle_of (f i))) (sym (state_is i))
-          (is_accepted (state i) (state_ready i).sound (cycle_of (f i)) (ready_number (state i) (state_ready i) (cycle_of (f i)) tt) cycle_small),
-    )
-      where
-        small : {e : Kind} → Starts k e → value_of e opens < refusal_unit
-        small (by_command (swaps one type now go)) = omega arith
-        small (by_ff00 a) = omega arith
+  pub state_is : (i : ℕ) → held_at t i ≡ held (state i)
+  unfolding held_at state
+  state_is zero = first_is t.before t.start st
+  state_is (suc i) =
+      ap (λ (h : Held). (does (cycle_of (t.told i)) h).left) (state_is i)
+      ∙ leaves_is (state i) (state_ready i).sound (cycle_of (t.told i)) (state_number i)
 
-        start_small : value_of d opens < refusal_unit
-        start_small = small st.starts
-
-        cycle_small : value_of (cycle_of (f i)) (state i) < refusal_unit
-        cycle_small =
-            let x = state i in
-            let r = (run_reu_cycle x.u x.m x.s (flag (f i).high) (flag (f i).phi1) (f i).number (flag (f i).low)).0 in
-            omega (arith, step_most r.flag r.passed)
+  -- none is refused
+  pub accepted : (i : ℕ) → Accepts t.start t.before × Accepts (cycle_of (t.told i)) (held_at t i)
+  accepted i = (
+    start_accepted t.before t.start st,
+    subst (Accepts (cycle_of (t.told i))) (sym (state_is i)) (is_accepted (state i) (state_ready i).sound (cycle_of (t.told i)) (state_number i) small),
+  )
+    where
+      small : value_of (cycle_of (t.told i)) (state i) < refusal_unit
+      small =
+          let x = state i in
+          let c = t.told i in
+          let r = (run_reu_cycle x.u x.m x.s (flag c.high) (flag c.phi1) c.number (flag c.low)).0 in
+          omega (arith, step_most r.flag r.passed)

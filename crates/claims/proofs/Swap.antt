@@ -1,5 +1,5 @@
 -- A swap with BA high: how far it is after k granted cycles, and what is exchanged by then.
-use Prim.Native.Nat.{ℕ, suc, ◌+◌, ◌-◌, ◌*◌, ◌/◌, ◌%◌, ◌^◌, ◌<◌, ◌≤◌}
+use Prim.Native.Nat.{ℕ, suc, ◌+◌, ◌-◌, ◌*◌, ◌/◌, ◌%◌, ◌<◌, ◌≤◌}
 use native.Mathlib.Nat.{zero-add}
 use mathlib.Core.Bool.{Bool, true, false, not}
 use mathlib.Core.Path.{◌≡◌, refl, sym, ap, ◌∙◌, subst, subst₂, subst₃, fun_ext}
@@ -33,7 +33,7 @@ use Rattle.image.proofs.Sound.{Sound}
 use Rattle.image.proofs.SoundCalls.{length_range}
 use Rattle.claims.proofs.CycleLaw.{Reading, Writing, Quiet, Kept, ReadStep, WriteStep, LastStep, IdleStep, read_step, write_step, last_step, idle_step, quiet_step_lem}
 use Rattle.claims.proofs.RegisterLaw.{Begun, start_law, Rewritten, rewritten_none, rewritten_keep, Value, rewrite_law, read_law, read_stays_quiet}
-use Rattle.claims.proofs.Exchange.{Exch, exch_zero}
+use Rattle.claims.proofs.Exchange.{exch_zero}
 use Rattle.claims.proofs.Places.{next_bus, next_storage, Block, bus_at, storage_at, latched, Clean, Half, folds, folds_to, clean_latch, clean_read, half_write}
 use Rattle.claims.proofs.States.{St, held, on, step_of, number_of, Steady, keeps_size, Ready}
 use Rattle.claims.proofs.Accepted.{without_bus, answer_is}

@@ -23,7 +23,7 @@ use Rattle.claims.specs.Constants.{flags_byte}
 use Rattle.claims.specs.Calls.{Held, Memories, trigger_ff00, Kind, write, cycle, other, does}
 use Rattle.claims.specs.SwapTwice.{byte, size_set, CanStart, ShownAll, bus_place, storage_place, block_length, swaps, Ended}
 use Rattle.claims.specs.Sessions.{begin, r16, run}
-use Rattle.claims.specs.SwapOnScreen.{by_command, by_ff00, SwapStart, LateClear, Told, held_at, Runs, high_at, LowStretch, Touches, TwoLow, Besides, left, Swaps, Course, Follows, enough, screen, screen_calls, before_r16, told_r16, Alone, SwapOnScreen}
+use Rattle.claims.specs.SwapOnScreen.{by_command, by_ff00, SwapStart, LateClear, ScreenTime, held_at, Runs, high_at, LowStretch, Touches, TwoLow, Besides, left, Swaps, Course, Follows, enough, screen, screen_calls, r16_time, Alone, SwapOnScreen}
 use Rattle.claims.proofs.States.{St, held, step_of, Ready}
 use Rattle.claims.proofs.Accepted.{leaves_is, ready_number, ready_step}
 use Rattle.claims.proofs.Look.{reg_byte, armed_bit, late_bit, size_byte, can_start, opened, size_is, opened_ready, opened_is, opened_attached, opened_free}
@@ -37,20 +37,20 @@ use Rattle.claims.proofs.ScreenRun.{shown_exchanged, same_count, completes, ends
 -- ---- courses of BA
 
 -- a stretch that is one call long would be a low call alone
-courses : (k : Held) (d : Kind) (f : ℕ → Told) (high : ℕ → Bool) → Course high → Follows f high → TwoLow k d f
-courses k d f high c on a t l touches = go (ℕ_discrete t 1)
+courses : (t : ScreenTime) (high : ℕ → Bool) → Course high → Follows t high → TwoLow t
+courses t high c on a n l touches = go (ℕ_discrete n 1)
   where
     here : high a ≡ false
     here = sym (on a) ∙ l.low a (omega arith) (omega (arith, l.some))
 
-    none : (b : ℕ) → a ≡ b → t ≡ 1 → ⊥
+    none : (b : ℕ) → a ≡ b → n ≡ 1 → ⊥
     none zero q one = both_ways (high 0) (subst (λ (y : ℕ). high y ≡ false) q here) c.first
     none (suc b) q one =
-        let next : a + t ≡ suc (suc b) = omega arith in
+        let next : a + n ≡ suc (suc b) = omega arith in
         both_ways (high (suc (suc b))) (c.pairs b (sym (on b) ∙ l.before b q) (subst (λ (y : ℕ). high y ≡ false) q here))
-        (subst (λ (y : ℕ). high y ≡ true) next (sym (on (a + t)) ∙ l.behind))
+        (subst (λ (y : ℕ). high y ≡ true) next (sym (on (a + n)) ∙ l.behind))
 
-    go : Dec (t ≡ 1) → 2 ≤ t
+    go : Dec (n ≡ 1) → 2 ≤ n
     go (yes one) = absurd (none a refl one)
     go (no ne) = omega (arith, l.some)
 
@@ -79,16 +79,22 @@ unfolding number_of
 number_fits true = omega arith
 number_fits false = omega arith
 
-told : (ℕ → Bool) → ℕ → Told
-told high i = record { high = number_of (high (suc i)); number = i % 2 ^ 64; low = 0; phi1 = number_of (high i) }
+-- calls that follow a course
+along : Held → Kind → (ℕ → Bool) → ScreenTime
+along k d high =
+    record {
+      before = k;
+      start = d;
+      told = λ i. record { high = number_of (high (suc i)); number = i % 2 ^ 64; low = 0; phi1 = number_of (high i) };
+    }
 
-told_high : (high : ℕ → Bool) (i : ℕ) → high_at (told high) i ≡ high i
-unfolding told
-told_high high i = flag_of (high i)
+along_follows : (k : Held) (d : Kind) (high : ℕ → Bool) → Follows (along k d high) high
+unfolding along
+along_follows k d high i = flag_of (high i)
 
-told_besides : (k : Held) → LateClear k → (high : ℕ → Bool) → Course high → Besides k (told high)
-unfolding told
-told_besides k late high c =
+along_besides : (k : Held) (d : Kind) → LateClear k → (high : ℕ → Bool) → Course high → Besides (along k d high)
+unfolding along
+along_besides k d late high c =
     record {
       late_clear = late;
       consecutive = λ i. omega arith;
@@ -97,8 +103,10 @@ told_besides k late high c =
       ahead = λ i. flag_of (high (suc i)) ∙ sym (flag_of (high (suc i)));
     }
 
-some_calls : (k : Held) → LateClear k → (high : ℕ → Bool) → Course high → (f : ℕ → Told) × Besides k f × Follows f high
-some_calls k late high c = (told high, told_besides k late high c, told_high high)
+some_calls : (k : Held) (d : Kind) → LateClear k → (high : ℕ → Bool) → Course high
+    → (t : ScreenTime) × (t.before ≡ k) × (t.start ≡ d) × Besides t × Follows t high
+unfolding along
+some_calls k d late high c = (along k d high, refl, refl, along_besides k d late high c, along_follows k d high)
 
 -- BA low at calls 1 and 2
 dip : ℕ → Bool
@@ -138,46 +146,52 @@ dip_first (suc i) e = absurd (omega arith)
 
 -- ---- by what the registers show
 
-module _ (k : Held) (d : Kind) (f : ℕ → Told) (w : ℕ → ℕ) (st : SwapStart k d) (shown : ShownAll k w) where
-  length_is : len_of (opens k d st).u ≡ block_length w
+module _ (t : ScreenTime) (w : ℕ → ℕ) (st : SwapStart t.before t.start) (shown : ShownAll t.before w) where
+  abbrev x : St
+  x = opens t.before t.start st
+
+  length_is : len_of x.u ≡ block_length w
   unfolding opens
-  length_is = block_length_lem k (opens k d st) (sym (opens_is k d st)) (opens_ready k d st).sound w shown (size_set k) (sym (size_is k st.can))
+  length_is =
+      block_length_lem t.before x (sym (opens_is t.before t.start st)) (opens_ready t.before t.start st).sound w shown (size_set t.before)
+      (sym (size_is t.before st.can))
 
-  begins : Runs (held_at k d f 0) × (left (held_at k d f 0) ≡ block_length w)
+  begins : Runs (held_at t 0) × (left (held_at t 0) ≡ block_length w)
   unfolding held_at
-  begins = subst (λ (h : Held). Runs h × (left h ≡ block_length w)) (sym (first_is k d st)) (first_runs k d st, first_left k d st ∙ length_is)
+  begins =
+      subst (λ (h : Held). Runs h × (left h ≡ block_length w)) (sym (first_is t.before t.start st))
+      (first_runs t.before t.start st, first_left t.before t.start st ∙ length_is)
 
-  swaps_by : TwoLow k d f → (calls : ℕ) → 2 ≤ calls → Swaps calls k d f w
+  swaps_by : TwoLow t → (calls : ℕ) → 2 ≤ calls → Swaps calls t w
   swaps_by tl calls two =
-      record {
-        exchanged = shown_exchanged k d st f tl w shown;
-        same_count = same_count k d st f tl;
-        completes = λ a t h. completes k d st f tl a t (omega arith);
-      }
+      record { exchanged = shown_exchanged t st tl w shown; same_count = same_count t st tl; completes = λ a n h. completes t st tl a n (omega arith) }
 
-  ends : TwoLow k d f → (a : ℕ) → ((i : ℕ) → a ≤ i → i < a + enough w → high_at f i ≡ true) → Ended (held_at k d f (a + enough w))
+  ends : TwoLow t → (a : ℕ) → ((i : ℕ) → a ≤ i → i < a + enough w → high_at t i ≡ true) → Ended (held_at t (a + enough w))
   ends tl a hi =
-      let same : a + 2 * len_of (opens k d st).u ≡ a + enough w = omega (arith, length_is) in
-      subst (λ (i : ℕ). Ended (held_at k d f i)) same (ends_high k d st f tl a (λ i lo lt. hi i lo (omega (arith, same))))
+      let same : a + 2 * len_of x.u ≡ a + enough w = omega (arith, length_is) in
+      subst (λ (i : ℕ). Ended (held_at t i)) same (ends_high t st tl a (λ i lo lt. hi i lo (omega (arith, same))))
 
-  ends_on_a_screen : (o : ℕ) → screen o 0 ≡ true → Follows f (screen o) → Ended (held_at k d f (screen_calls w))
+  ends_on_a_screen : (o : ℕ) → screen o 0 ≡ true → Follows t (screen o) → Ended (held_at t (screen_calls w))
   ends_on_a_screen o h on =
-      let tl = courses k d f (screen o) (screens o h) on in
+      let tl = courses t (screen o) (screens o h) on in
       let s : ℕ = (544 - o % 504) % 504 in
-      ends_there k d st f tl o s (omega arith) on (screen_calls w) (omega (arith, length_is))
+      ends_there t st tl o s (omega arith) on (screen_calls w) (omega (arith, length_is))
 
 some_run : (k : Held) (d : Kind) → SwapStart k d → LateClear k → (w : ℕ → ℕ) → ShownAll k w
-    → (f : ℕ → Told) × Besides k f × TwoLow k d f × LowStretch f 1 2 × Touches k d f 1 2 × Ended (held_at k d f (3 + enough w))
-unfolding dip
+    → (t : ScreenTime) × (t.before ≡ k) × (t.start ≡ d) × Besides t × TwoLow t × LowStretch t 1 2 × Touches t 1 2 × Ended (held_at t (3 + enough w))
+unfolding along
 some_run k d st late w shown =
-    let f = told dip in
-    let tl : TwoLow k d f = courses k d f dip dip_course (told_high dip) in (
-      f,
-      told_besides k late dip dip_course,
+    let t = along k d dip in
+    let on = along_follows k d dip in
+    let tl : TwoLow t = courses t dip dip_course on in (
+      t,
+      refl,
+      refl,
+      along_besides k d late dip dip_course,
       tl,
-      record { some = omega arith; low = λ i lo hi. told_high dip i ∙ dip_low i lo hi; before = λ i e. told_high dip i ∙ dip_first i e; behind = told_high dip 3 },
-      (1, omega arith, omega arith, second_runs k d st f tl),
-      ends k d f w st shown tl 3 (λ i lo hi. told_high dip i ∙ dip_high i lo),
+      record { some = omega arith; low = λ i lo hi. on i ∙ dip_low i lo hi; before = λ i e. on i ∙ dip_first i e; behind = on 3 ∙ dip_high 3 (omega arith) },
+      (1, omega arith, omega arith, second_runs t st tl),
+      ends t w st shown tl 3 (λ i lo hi. on i ∙ dip_high i lo),
     )
 
 -- ---- there are starts of both kinds
@@ -247,14 +261,14 @@ module _ (m s : List ℕ) (mem : Memories new_size m s) where
   set_up_ready : Ready set_up
   set_up_ready = ready_played m s mem six (omega arith)
 
-  set_up_is : before_r16 m s ≡ held set_up
+  set_up_is : (r16_time m s).before ≡ held set_up
   set_up_is = played m s mem six (omega arith)
 
-  r16_start : SwapStart (before_r16 m s) (write 1 0x92)
+  r16_start : SwapStart (r16_time m s).before (write 1 0x92)
   unfolding calls_computed
-  r16_start = some_command (before_r16 m s) (subst CanStart (sym set_up_is) (can_start set_up set_up_ready refl refl))
+  r16_start = some_command (r16_time m s).before (subst CanStart (sym set_up_is) (can_start set_up set_up_ready refl refl))
 
-  r16_late : LateClear (before_r16 m s)
+  r16_late : LateClear (r16_time m s).before
   unfolding calls_computed
   r16_late = ap (λ (h : Held). bit (byte h flags_byte) 7) set_up_is ∙ late_bit set_up set_up_ready.sound
 
@@ -265,22 +279,22 @@ module _ (m s : List ℕ) (mem : Memories new_size m s) where
       ∙ ap (λ (v : ℕ). bit v 7) (reg_byte (to ds (start m s)) (ready_played m s mem ds f).sound 1 (omega arith))
 
   -- the block that is shown: one byte, at places 0
-  module _ (w : ℕ → ℕ) (shown : ShownAll (before_r16 m s) w) where
+  module _ (w : ℕ → ℕ) (shown : ShownAll (r16_time m s).before w) where
     r16_length : block_length w ≡ 1
     unfolding calls_computed
-    r16_length = sym (block_length_lem (before_r16 m s) set_up set_up_is set_up_ready.sound w shown new_size refl)
+    r16_length = sym (block_length_lem (r16_time m s).before set_up set_up_is set_up_ready.sound w shown new_size refl)
 
     r16_bus : 0 ≡ bus_place w 0
     unfolding calls_computed
-    r16_bus = bus_place_lem (before_r16 m s) set_up set_up_is set_up_ready.sound w shown new_size refl 0
+    r16_bus = bus_place_lem (r16_time m s).before set_up set_up_is set_up_ready.sound w shown new_size refl 0
 
-    r16_storage : 0 ≡ storage_place (size_set (before_r16 m s)) w 0
+    r16_storage : 0 ≡ storage_place (size_set (r16_time m s).before) w 0
     unfolding calls_computed
     r16_storage =
-        storage_place_lem (before_r16 m s) set_up set_up_is set_up_ready.sound w shown new_size refl 0
+        storage_place_lem (r16_time m s).before set_up set_up_is set_up_ready.sound w shown new_size refl 0
         ∙ ap (λ (q : ℕ). storage_place q w 0) (sym (ap size_set set_up_is ∙ size_byte set_up set_up_ready.sound))
 
-  r16_shows_why : Alone m s (before_r16 m s) (write 1 0x92) told_r16
+  r16_shows_why : Alone m s (r16_time m s)
   unfolding held_at calls_computed
   r16_shows_why =
       record {
@@ -300,8 +314,8 @@ module _ (m s : List ℕ) (mem : Memories new_size m s) where
         bus_kept = bytes.0;
         storage_lost = bytes.1;
         not_exchanged = λ w shown ne ex. ne (
-            sym (ap (λ (l : List ℕ). get_or l 0 0) bytes.0) ∙ ap (λ (j : ℕ). get_or (held_at (before_r16 m s) (write 1 0x92) told_r16 5).bus j 0) (r16_bus w shown)
-            ∙ ex.to_bus 0 (omega (arith, r16_length w shown)) ∙ ap (λ (j : ℕ). get_or (before_r16 m s).storage j 0) (sym (r16_storage w shown))
+            sym (ap (λ (l : List ℕ). get_or l 0 0) bytes.0) ∙ ap (λ (j : ℕ). get_or (held_at (r16_time m s) 5).bus j 0) (r16_bus w shown)
+            ∙ ex.to_bus 0 (omega (arith, r16_length w shown)) ∙ ap (λ (j : ℕ). get_or (r16_time m s).before.storage j 0) (sym (r16_storage w shown))
             ∙ ap (λ (h : Held). get_or h.storage 0 0) set_up_is);
       }
     where
@@ -309,15 +323,15 @@ module _ (m s : List ℕ) (mem : Memories new_size m s) where
       small true = omega arith
       small false = omega arith
 
-      ahead : (i : ℕ) → flag (told_r16 i).high ≡ high_at told_r16 (suc i)
+      ahead : (i : ℕ) → flag ((r16_time m s).told i).high ≡ high_at (r16_time m s) (suc i)
       ahead zero = refl
       ahead (suc i) = ap (λ (b : Bool). flag (cond b 0 1)) (ne_eqb (suc i) 0 (λ e. omega arith) ∙ sym (ne_eqb (suc (suc i)) 1 (λ e. omega arith)))
 
-      low : (i : ℕ) → 1 ≤ i → i < 1 + 1 → high_at told_r16 i ≡ false
-      low i lo hi = let q : 1 ≡ i = omega arith in subst (λ (y : ℕ). high_at told_r16 y ≡ false) q refl
+      low : (i : ℕ) → 1 ≤ i → i < 1 + 1 → high_at (r16_time m s) i ≡ false
+      low i lo hi = let q : 1 ≡ i = omega arith in subst (λ (y : ℕ). high_at (r16_time m s) y ≡ false) q refl
 
-      before : (i : ℕ) → 1 ≡ suc i → high_at told_r16 i ≡ true
-      before i e = let q : 0 ≡ i = omega arith in subst (λ (y : ℕ). high_at told_r16 y ≡ true) q refl
+      before : (i : ℕ) → 1 ≡ suc i → high_at (r16_time m s) i ≡ true
+      before i e = let q : 0 ≡ i = omega arith in subst (λ (y : ℕ). high_at (r16_time m s) y ≡ true) q refl
 
       bytes : ((run m s (begin 0 0 1 0x92 ++ r16)).bus ≡ m) × ((run m s (begin 0 0 1 0x92 ++ r16)).storage ≡ set s 0 (get_or m 0 0))
       bytes =
@@ -328,12 +342,12 @@ module _ (m s : List ℕ) (mem : Memories new_size m s) where
 pub swap_on_screen : SwapOnScreen
 swap_on_screen =
     record {
-      requested = λ k d f w st besides tl shown. swaps_by k d f w st shown tl _ (omega arith);
-      stronger = λ k d f w st tl shown. swaps_by k d f w st shown tl _ (omega arith);
-      accepted = λ k d f i st. accepted k d st f i;
-      begins = λ k d f w st shown. begins k d f w st shown;
-      ends = λ k d f w st tl shown. ends k d f w st shown tl;
-      ends_on_a_screen = λ k d f w st shown. ends_on_a_screen k d f w st shown;
+      requested = λ t w st besides tl shown. swaps_by t w st shown tl _ (omega arith);
+      stronger = λ t w st tl shown. swaps_by t w st shown tl _ (omega arith);
+      accepted = λ t i st. accepted t st i;
+      begins = λ t w st shown. begins t w st shown;
+      ends = λ t w st tl shown. ends t w st shown tl;
+      ends_on_a_screen = λ t w st shown. ends_on_a_screen t w st shown;
       screens = screens;
       courses = courses;
       some_calls = some_calls;

@@ -46,12 +46,18 @@ pub record Told : Type 0 where
 abbrev pub cycle_of : Told → Kind
 cycle_of t = cycle t.high t.number t.low t.phi1
 
--- what is held before call i, of which the first is number 0: each call is made on what the one before it left
-unfoldable pub held_at : Held → Kind → (ℕ → Told) → ℕ → Held
-held_at k d f zero = (does d k).left
-held_at k d f (suc i) = (does (cycle_of (f i)) (held_at k d f i)).left
+-- what is held before the start, the call that starts, and what each cycle call after it is told, the first of which is number 0
+pub record ScreenTime : Type 0 where
+  pub before : Held
+  pub start : Kind
+  pub told : ℕ → Told
 
--- a call is not refused
+-- what is held before call i: each call is made on what the one before it left
+unfoldable pub held_at : ScreenTime → ℕ → Held
+held_at t zero = (does t.start t.before).left
+held_at t (suc i) = (does (cycle_of (t.told i)) (held_at t i)).left
+
+-- a call on these buffers is not refused
 abbrev pub Accepts : Kind → Held → Type 0
 Accepts d k = accepts (record { kind = d; lent = k }) ≡ true
 
@@ -62,33 +68,33 @@ Runs k = bit (byte k command) execute ≡ true
 -- ---- what is assumed of BA
 
 -- `ba_high_phi1` at call i
-abbrev pub high_at : (ℕ → Told) → ℕ → Bool
-high_at f i = flag (f i).phi1
+abbrev pub high_at : ScreenTime → ℕ → Bool
+high_at t i = flag (t.told i).phi1
 
 -- a "low stretch": n calls from call a on, and none more before or behind them
-pub record LowStretch (f : ℕ → Told) (a n : ℕ) : Type 0 where
+pub record LowStretch (t : ScreenTime) (a n : ℕ) : Type 0 where
   pub some : 0 < n
-  pub low : (i : ℕ) → a ≤ i → i < a + n → high_at f i ≡ false
-  pub before : (i : ℕ) → a ≡ suc i → high_at f i ≡ true
-  pub behind : high_at f (a + n) ≡ true
+  pub low : (i : ℕ) → a ≤ i → i < a + n → high_at t i ≡ false
+  pub before : (i : ℕ) → a ≡ suc i → high_at t i ≡ true
+  pub behind : high_at t (a + n) ≡ true
 
 -- it "touches the command": one of its calls comes while the command runs
-abbrev pub Touches : Held → Kind → (ℕ → Told) → ℕ → ℕ → Type 0
-Touches k d f a n = (i : ℕ) × (a ≤ i) × (i < a + n) × Runs (held_at k d f i)
+abbrev pub Touches : ScreenTime → ℕ → ℕ → Type 0
+Touches t a n = (i : ℕ) × (a ≤ i) × (i < a + n) × Runs (held_at t i)
 
 -- "every low stretch of `ba_high_phi1` that touches the command lasts at least two calls"
-abbrev pub TwoLow : Held → Kind → (ℕ → Told) → Type 0
-TwoLow k d f = (a n : ℕ) → LowStretch f a n → Touches k d f a n → 2 ≤ n
+abbrev pub TwoLow : ScreenTime → Type 0
+TwoLow t = (a n : ℕ) → LowStretch t a n → Touches t a n → 2 ≤ n
 
 -- what the request assumes besides
-pub record Besides (k : Held) (f : ℕ → Told) : Type 0 where
-  pub late_clear : LateClear k
+pub record Besides (t : ScreenTime) : Type 0 where
+  pub late_clear : LateClear t.before
   -- "consecutive cycle numbers", of 64 bits; and every number fits the argument that it is passed as
-  pub consecutive : (i : ℕ) → (f (suc i)).number ≡ ((f i).number + 1) % 2 ^ 64
-  pub numbers : (i : ℕ) → NumbersFit (cycle_of (f i))
+  pub consecutive : (i : ℕ) → (t.told (suc i)).number ≡ ((t.told i).number + 1) % 2 ^ 64
+  pub numbers : (i : ℕ) → NumbersFit (cycle_of (t.told i))
   -- "`ba_high_phi1` is high at the first call", "`ba_high` at each call is what `ba_high_phi1` is at the next"
-  pub first_high : high_at f 0 ≡ true
-  pub ahead : (i : ℕ) → flag (f i).high ≡ high_at f (suc i)
+  pub first_high : high_at t 0 ≡ true
+  pub ahead : (i : ℕ) → flag (t.told i).high ≡ high_at t (suc i)
 
 -- ---- what then holds
 
@@ -100,101 +106,102 @@ left k = cond (eqb (byte k transfer_byte) 0) 0 (remaining_of (pair_in k.image))
 abbrev pub occurrences : ℕ → Held → ℕ
 occurrences v k = count_by (λ x. eqb x v) k.bus + count_by (λ x. eqb x v) k.storage
 
--- of the swap of the block that w shows, where so many high calls in a row complete a byte
-pub record Swaps (calls : ℕ) (k : Held) (d : Kind) (f : ℕ → Told) (w : ℕ → ℕ) : Type 0 where
+-- of the block that w shows, where so many high calls in a row complete a byte
+pub record Swaps (calls : ℕ) (t : ScreenTime) (w : ℕ → ℕ) : Type 0 where
   -- "when the swap ends, every byte of the block has changed places and no other byte differs": at its end, and at each call behind it
-  pub exchanged : (i : ℕ) → Ended (held_at k d f i) → Exchanged w k (held_at k d f i)
+  pub exchanged : (i : ℕ) → Ended (held_at t i) → Exchanged w t.before (held_at t i)
   -- the number "is then the same as at the start"
-  pub same_count : (i v : ℕ) → Ended (held_at k d f i) → occurrences v (held_at k d f i) ≡ occurrences v k
-  -- "inside the command, each high stretch of four or more calls completes at least one byte": from its first call on that comes while
-  -- the command runs
+  pub same_count : (i v : ℕ) → Ended (held_at t i) → occurrences v (held_at t i) ≡ occurrences v t.before
+  -- "inside the command, each high stretch of four or more calls completes at least one byte": with so many high calls in a row, or more, of
+  -- which the first comes while the command runs, fewer bytes are left
   pub completes :
-      (a n : ℕ) → calls ≤ n → Runs (held_at k d f a) → ((i : ℕ) → a ≤ i → i < a + n → high_at f i ≡ true)
-      → left (held_at k d f (a + n)) < left (held_at k d f a)
+      (a n : ℕ) → calls ≤ n → Runs (held_at t a) → ((i : ℕ) → a ≤ i → i < a + n → high_at t i ≡ true)
+      → left (held_at t (a + n)) < left (held_at t a)
 
 -- ---- courses of BA
 
--- BA is high at the first call, and no low call stands alone
+-- of the kind that is asked for: BA is high at the first call, and no low call stands alone
 pub record Course (high : ℕ → Bool) : Type 0 where
   pub first : high 0 ≡ true
   pub pairs : (i : ℕ) → high i ≡ true → high (suc i) ≡ false → high (suc (suc i)) ≡ false
 
--- what each call is told of BA
-abbrev pub Follows : (ℕ → Told) → (ℕ → Bool) → Type 0
-Follows f high = (i : ℕ) → high_at f i ≡ high i
+abbrev pub Follows : ScreenTime → (ℕ → Bool) → Type 0
+Follows t high = (i : ℕ) → high_at t i ≡ high i
 
--- high calls in a row that any block ends in: two for each byte
+-- high calls in a row in which any block ends: two for each byte
 abbrev pub enough : (ℕ → ℕ) → ℕ
 enough w = 2 * block_length w
 
--- a screen's course: low at 40 of every 504 calls, which are eight lines; o says where in these the first call comes
+-- a screen's: low at 40 of every 504 calls, which are eight lines; o says where in these the first call comes
 abbrev pub screen : ℕ → ℕ → Bool
 screen o i = leb 40 ((o + i) % 504)
 
--- calls that any block ends in on a screen: the 464 high ones of each 504 complete 232 bytes; 504 more for what is over, and 504 up to
--- the first stretch that is whole
+-- calls in which any block ends on a screen: the 464 high ones of each 504 complete 232 bytes; 504 more for what is over, and 504 up to
+-- the first high stretch that is whole
 abbrev pub screen_calls : (ℕ → ℕ) → ℕ
 screen_calls w = 504 * (block_length w / 232 + 2)
 
 -- ---- "R16 shows why": a low call that stands alone
 
--- R16's start up to COMMAND, and its cycles from 10 on: `ba_high` low only at 10, `ba_high_phi1` low only at 11
-abbrev pub before_r16 : List ℕ → List ℕ → Held
-before_r16 m s = run m s (take 6 (begin 0 0 1 0x92))
-
-abbrev pub told_r16 : ℕ → Told
-told_r16 i =
-    record { high = cond (eqb i 0) 0 1; number = (10 + i) % 2 ^ 64; low = 0; phi1 = cond (eqb i 1) 0 1 }
+-- R16's start, and its cycles from 10 on: `ba_high` low only at 10, `ba_high_phi1` low only at 11
+abbrev pub r16_time : List ℕ → List ℕ → ScreenTime
+r16_time m s =
+    record {
+      before = run m s (take 6 (begin 0 0 1 0x92));
+      start = write command 0x92;
+      told = λ i. record { high = cond (eqb i 0) 0 1; number = (10 + i) % 2 ^ 64; low = 0; phi1 = cond (eqb i 1) 0 1 };
+    }
 
 -- all is as L6 asks, but that the one low stretch is a single call. It comes behind a read, and `ba_high` has said so before: the read is to
 -- be made once more. But BA is high again, and the parity equal: the storage's byte is put back, and the read phase is next. The read that
 -- was to be made once more is made all the same, and puts the bus's byte into the storage, but not the storage's into the latch. So the
 -- next read finds and latches the bus's byte, and the storage's is lost
-pub record Alone (m s : List ℕ) (k : Held) (d : Kind) (f : ℕ → Told) : Type 0 where
-  pub start : SwapStart k d
-  pub besides : Besides k f
-  pub stretch : LowStretch f 1 1
-  pub touches : Touches k d f 1 1
+pub record Alone (m s : List ℕ) (t : ScreenTime) : Type 0 where
+  pub start : SwapStart t.before t.start
+  pub besides : Besides t
+  pub stretch : LowStretch t 1 1
+  pub touches : Touches t 1 1
   -- it is the recorded session, with which the command ends
-  pub session : held_at k d f 5 ≡ run m s (begin 0 0 1 0x92 ++ r16)
-  pub ends : Ended (held_at k d f 5)
+  pub session : held_at t 5 ≡ run m s (begin 0 0 1 0x92 ++ r16)
+  pub ends : Ended (held_at t 5)
   -- "both bytes end as c"
-  pub bus_kept : (held_at k d f 5).bus ≡ m
-  pub storage_lost : (held_at k d f 5).storage ≡ set s 0 (get_or m 0 0)
-  -- so if they are two bytes, they have not changed places
-  pub not_exchanged : (w : ℕ → ℕ) → ShownAll k w → get_or m 0 0 ≢ get_or s 0 0 → ¬ Exchanged w k (held_at k d f 5)
+  pub bus_kept : (held_at t 5).bus ≡ m
+  pub storage_lost : (held_at t 5).storage ≡ set s 0 (get_or m 0 0)
+  -- so if c and r differ, they have not changed places
+  pub not_exchanged : (w : ℕ → ℕ) → ShownAll t.before w → get_or m 0 0 ≢ get_or s 0 0 → ¬ Exchanged w t.before (held_at t 5)
 
 -- ---- the claim
 
 pub record SwapOnScreen : Type 0 where
   -- the request's own form
   pub requested :
-      (k : Held) (d : Kind) (f : ℕ → Told) (w : ℕ → ℕ) → SwapStart k d → Besides k f → TwoLow k d f → ShownAll k w
-      → Swaps 4 k d f w
+      (t : ScreenTime) (w : ℕ → ℕ) → SwapStart t.before t.start → Besides t → TwoLow t → ShownAll t.before w → Swaps 4 t w
   -- of what it assumes the low stretches alone are needed, and two high calls in a row complete a byte
-  pub stronger :
-      (k : Held) (d : Kind) (f : ℕ → Told) (w : ℕ → ℕ) → SwapStart k d → TwoLow k d f → ShownAll k w → Swaps 2 k d f w
-  -- whatever BA does none of these calls is refused, and the start leaves a command that runs and has all of the block left
+  pub stronger : (t : ScreenTime) (w : ℕ → ℕ) → SwapStart t.before t.start → TwoLow t → ShownAll t.before w → Swaps 2 t w
+  -- whatever BA does none of the calls is refused, and the start leaves a command that runs and has all of the block left
   pub accepted :
-      (k : Held) (d : Kind) (f : ℕ → Told) (i : ℕ) → SwapStart k d → Accepts d k × Accepts (cycle_of (f i)) (held_at k d f i)
+      (t : ScreenTime) (i : ℕ) → SwapStart t.before t.start → Accepts t.start t.before × Accepts (cycle_of (t.told i)) (held_at t i)
   pub begins :
-      (k : Held) (d : Kind) (f : ℕ → Told) (w : ℕ → ℕ) → SwapStart k d → ShownAll k w
-      → Runs (held_at k d f 0) × (left (held_at k d f 0) ≡ block_length w)
+      (t : ScreenTime) (w : ℕ → ℕ) → SwapStart t.before t.start → ShownAll t.before w
+      → Runs (held_at t 0) × (left (held_at t 0) ≡ block_length w)
   -- with BA high long enough, from any call on, it ends; and it ends on a screen
   pub ends :
-      (k : Held) (d : Kind) (f : ℕ → Told) (w : ℕ → ℕ) → SwapStart k d → TwoLow k d f → ShownAll k w
-      → (a : ℕ) → ((i : ℕ) → a ≤ i → i < a + enough w → high_at f i ≡ true) → Ended (held_at k d f (a + enough w))
+      (t : ScreenTime) (w : ℕ → ℕ) → SwapStart t.before t.start → TwoLow t → ShownAll t.before w
+      → (a : ℕ) → ((i : ℕ) → a ≤ i → i < a + enough w → high_at t i ≡ true) → Ended (held_at t (a + enough w))
   pub ends_on_a_screen :
-      (k : Held) (d : Kind) (f : ℕ → Told) (w : ℕ → ℕ) → SwapStart k d → ShownAll k w
-      → (o : ℕ) → screen o 0 ≡ true → Follows f (screen o) → Ended (held_at k d f (screen_calls w))
-  -- a screen's is a course of the kind; every one of the kind has the low stretches that are asked for, and for every one there are calls
+      (t : ScreenTime) (w : ℕ → ℕ) → SwapStart t.before t.start → ShownAll t.before w
+      → (o : ℕ) → screen o 0 ≡ true → Follows t (screen o) → Ended (held_at t (screen_calls w))
+  -- a screen's course is of the kind; one of the kind has the low stretches that are asked for, and for each one there are calls
   pub screens : (o : ℕ) → screen o 0 ≡ true → Course (screen o)
-  pub courses : (k : Held) (d : Kind) (f : ℕ → Told) (high : ℕ → Bool) → Course high → Follows f high → TwoLow k d f
-  pub some_calls : (k : Held) → LateClear k → (high : ℕ → Bool) → Course high → (f : ℕ → Told) × Besides k f × Follows f high
+  pub courses : (t : ScreenTime) (high : ℕ → Bool) → Course high → Follows t high → TwoLow t
+  pub some_calls :
+      (k : Held) (d : Kind) → LateClear k → (high : ℕ → Bool) → Course high
+      → (t : ScreenTime) × (t.before ≡ k) × (t.start ≡ d) × Besides t × Follows t high
   -- with some of them each swap has its second and third calls low, and ends
   pub some_run :
       (k : Held) (d : Kind) → SwapStart k d → LateClear k → (w : ℕ → ℕ) → ShownAll k w
-      → (f : ℕ → Told) × Besides k f × TwoLow k d f × LowStretch f 1 2 × Touches k d f 1 2 × Ended (held_at k d f (3 + enough w))
+      → (t : ScreenTime) × (t.before ≡ k) × (t.start ≡ d) × Besides t × TwoLow t × LowStretch t 1 2 × Touches t 1 2
+      × Ended (held_at t (3 + enough w))
   -- there is what can start of each size, and from all that can start there are starts of both kinds
   pub some_start :
       (size : ℕ) → is_size size ≡ true → (m s : List ℕ) → Memories size m s
@@ -203,4 +210,4 @@ pub record SwapOnScreen : Type 0 where
   pub some_ff00 :
       (k : Held) → CanStart k → LateClear k
       → let a : Held = (does (write command 0x82) k).left in SwapStart a (other trigger_ff00) × LateClear a
-  pub r16_shows_why : (m s : List ℕ) → Memories new_size m s → Alone m s (before_r16 m s) (write command 0x92) told_r16
+  pub r16_shows_why : (m s : List ℕ) → Memories new_size m s → Alone m s (r16_time m s)
