@@ -22,7 +22,7 @@ use Rattle.controller.specs.Reu.{reg, with_history}
 use Rattle.controller.specs.BusAction.{decide, repeated, resumed}
 use Rattle.controller.specs.TickDma.{Ticked, ticked}
 use Rattle.controller.specs.Cycle.{run_reu_cycle, cycle_by}
-use Rattle.claims.proofs.CycleLaw.{cycle_computed, swap_state, form, Stands, stands_is, ReadStep, LastStep, Quiet, read_step, write_step, last_step, last_tick}
+use Rattle.claims.proofs.CycleLaw.{cycle_computed, swap_state, form, Stands, form_stands, stands_is, ReadStep, LastStep, Quiet, read_step, write_step, last_step, last_tick}
 
 -- what a cycle leaves: the bus m, the storage s, COMMAND v as it was, and the swap standing so
 pub record After (v : ℕ) (phi1 : Bool) (m s : List ℕ) (p : SwapPhase) (t f : Bool) (d c e r l : ℕ) (z : Ticked) : Type 0 where
@@ -187,26 +187,29 @@ module _ (u : Reu) (c e r : ℕ) (m s : List ℕ) (high : Bool) (n : ℕ) (low :
         v : Reu
         v = form u WriteC64 false false 0 c e r l auto one odd true late
 
-        stands : (k : ℕ) → r ≡ k → Stands v WriteC64 false false 0 c e k l
-        stands k q = record { terminal = refl; refresh = refl; delay = refl; attached = refl; auto = auto; one = one; odd = odd; transfer = ap (λ (x : ℕ). Some (swap_state WriteC64 c e x l auto one odd)) q }
+        stands : Stands v WriteC64 false false 0 c e r l
+        stands = form_stands u WriteC64 false false 0 c e r l auto one odd true late
 
         go : Dec (r ≡ 1) → Writes was true l (cycled v true)
-        go (yes q) = finishes refl q (of_last v c l m s _ _ (last_step v c e l (record { high = refl; stands = stands 1 q }) len m s high n low))
+        go (yes q) =
+            let last = subst (λ (k : ℕ). Stands v WriteC64 false false 0 c e k l) q stands in
+            finishes refl q (of_last v c l m s _ _ (last_step v c e l (record { high = refl; stands = last }) len m s high n low))
         go (no q) =
-            let h = write_step v c e r l (record { high = refl; stands = stands r refl }) (ne_eqb r 1 q) m s high n low in
-            writes h.phase.latch refl q (record { bus = h.bus; storage = h.storage; history = h.history; command = h.command; stands = h.phase.stands })
+            let h = write_step v c e r l (record { high = refl; stands = stands }) (ne_eqb r 1 q) m s high n low in
+            writes h.phase.latch refl q
+            (record { bus = h.bus; storage = h.storage; history = h.history; command = h.command; stands = h.phase.stands })
 
     write_high : (l : ℕ) (auto one odd late was : Bool) → Writes was true l (cycled (form u WriteC64 false false 0 c e r l auto one odd was late) true)
     write_high l auto one odd late true = write_now l auto one odd late true
-    write_high l auto one odd late false =
-        rise (Writes false true l) l auto one odd late (again refl refl (of_read v c e r m (set s at l) _ _ (read_step v c e r (record { latch = l; stands = stands }) m (set s at l) high n low)))
-        (write_now l auto one odd late false)
+    write_high l auto one odd late false = rise (Writes false true l) l auto one odd late read_again (write_now l auto one odd late false)
       where
         v : Reu
         v = form u ReadC64 false false 0 c e r l auto one odd true late
 
-        stands : Stands v ReadC64 false false 0 c e r l
-        stands = record { terminal = refl; refresh = refl; delay = refl; attached = refl; auto = auto; one = one; odd = odd; transfer = refl }
+        read_again : Writes false true l (run_reu_cycle v m (set s at l) high true n low)
+        read_again =
+            let h = form_stands u ReadC64 false false 0 c e r l auto one odd true late in
+            again refl refl (of_read v c e r m (set s at l) _ _ (read_step v c e r (record { latch = l; stands = h }) m (set s at l) high n low))
 
     pub before_write : (l : ℕ) (was phi1 : Bool) → u.ba_was_high ≡ was → Stands u WriteC64 false false 0 c e r l → Writes was phi1 l (cycled u phi1)
     before_write l was true q h =

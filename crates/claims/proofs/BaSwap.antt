@@ -17,7 +17,7 @@ use Rattle.controller.specs.TickDma.{Ticked}
 use Rattle.controller.specs.Cycle.{run_reu_cycle}
 use Rattle.claims.proofs.CycleLaw.{Quiet, Stands, swap_state, quiet_step_lem}
 use Rattle.claims.proofs.BaLaw.{After, Ends, Reads, reads, waits, delays, pairs, Writes, writes, finishes, again, stays, refreshes, gives_up, before_read, delayed_two, delayed_one, before_write, in_pair, refreshed}
-use Rattle.claims.proofs.Places.{next_bus, next_storage, Block, bus_at, latched, Clean, Half, folds, folds_to, clean_latch, clean_read, half_back, half_again, again_latch, half_refresh, half_write}
+use Rattle.claims.proofs.Places.{next_bus, next_storage, Block, bus_at, exp_at, latched, Clean, Half, folds, folds_to, clean_latch, clean_read, half_back, half_again, again_latch, half_refresh, half_write}
 use Rattle.claims.proofs.States.{St}
 use Rattle.claims.proofs.Swap.{after_tick, command_ends}
 
@@ -37,7 +37,7 @@ module _ (block : Block) (w₀ : Bool) (B : ℕ → Bool) where
     pub lt : j < block.n
     pub history : x.u.ba_was_high ≡ previous w₀ B i
     pub going : Going x
-    pub stands : Stands x.u p t f d (bus_at block j) ((block.e + j) % 16777216) (block.n - j) l
+    pub stands : Stands x.u p t f d (bus_at block j) (exp_at block j) (block.n - j) l
 
   -- after a fall BA stays low for this call
   pub record Low (i : ℕ) : Type 0 where
@@ -72,7 +72,7 @@ module _ (block : Block) (w₀ : Bool) (B : ℕ → Bool) where
       record {
         lt = a.lt;
         going = a.going;
-        state = swap_state p (bus_at block j) ((block.e + j) % 16777216) (block.n - j) l a.stands.auto a.stands.one a.stands.odd;
+        state = swap_state p (bus_at block j) (exp_at block j) (block.n - j) l a.stands.auto a.stands.one a.stands.odd;
         transfer = a.stands.transfer;
         remaining = refl;
       }
@@ -130,7 +130,8 @@ module _ (block : Block) (w₀ : Bool) (B : ℕ → Bool) where
         slow = λ f. refl;
       }
 
-  read_now : {j i : ℕ} {x y : St} {p : Progress j i x} → (IsWriting p → ⊥) → At j (suc i) y WriteC64 false false 0 (latched block j) × Half block j y.m y.s → Stepped p y
+  read_now : {j i : ℕ} {x y : St} {p : Progress j i x} → (IsWriting p → ⊥)
+      → At j (suc i) y WriteC64 false false 0 (latched block j) × Half block j y.m y.s → Stepped p y
   read_now {j} not_write w =
       record { to = j; more = omega arith; here = writing w.0 w.1; moves = λ hi lt. inr tt; fires = λ f. absurd (not_write f); slow = λ f. refl }
 
@@ -139,25 +140,35 @@ module _ (block : Block) (w₀ : Bool) (B : ℕ → Bool) where
       record { to = suc j; more = omega arith; here = here; moves = λ hi lt. inl (omega arith); fires = λ f w hi. omega arith; slow = λ f. absurd (not_read f) }
 
   module _ (j i : ℕ) (x : St) (same : lines x.u.size ≡ block.L) where
+    -- where byte j is folded to, the storage after its read, and the bus after its write
+    abbrev at : ℕ
+    at = folds block x.u.size j
+
+    abbrev stored : List ℕ
+    stored = set x.s at (get_or x.m (bus_at block j) 0)
+
+    abbrev written : List ℕ
+    written = set x.m (bus_at block j) (latched block j)
+
     next_at : {p p' : SwapPhase} {t f t' f' : Bool} {d d' l l' : ℕ} {m s : List ℕ} {z : Ticked} → At j i x p t f d l
-        → After (reg x.u 1) (B i) m s p' t' f' d' (bus_at block j) ((block.e + j) % 16777216) (block.n - j) l' z → At j (suc i) (after_tick z) p' t' f' d' l'
+        → After (reg x.u 1) (B i) m s p' t' f' d' (bus_at block j) (exp_at block j) (block.n - j) l' z → At j (suc i) (after_tick z) p' t' f' d' l'
     next_at h a =
         record { lt = h.lt; history = a.history; going = ap (λ (v : ℕ). v / 128 % 2) a.command ∙ h.going; stands = a.stands }
 
     -- the read is done
     has_read : {p : SwapPhase} {t f t' : Bool} {d l : ℕ} {z : Ticked} → At j i x p t f d l → Clean block j x.m x.s
-        → After (reg x.u 1) (B i) x.m (set x.s (folds block x.u.size j) (get_or x.m (bus_at block j) 0)) WriteC64 t' false 0 (bus_at block j) ((block.e + j) % 16777216) (block.n - j) (get_or x.s (folds block x.u.size j) 0) z
+        → After (reg x.u 1) (B i) x.m stored WriteC64 t' false 0 (bus_at block j) (exp_at block j) (block.n - j) (get_or x.s at 0) z
         → At j (suc i) (after_tick z) WriteC64 t' false 0 (latched block j) × Half block j z.1 z.2
     has_read {t' = t'} {z = z} h cl a = (
       subst (λ (q : ℕ). At j (suc i) (after_tick z) WriteC64 t' false 0 q)
-          (clean_latch block j h.lt x.m (folds block x.u.size j) (folds_to block x.u.size same j) x.s cl) (next_at h a),
+          (clean_latch block j h.lt x.m at (folds_to block x.u.size same j) x.s cl) (next_at h a),
       subst₂ (Half block j) (sym a.bus) (sym a.storage)
-          (clean_read block j h.lt x.m (folds block x.u.size j) (folds_to block x.u.size same j) x.s cl),
+          (clean_read block j h.lt x.m at (folds_to block x.u.size same j) x.s cl),
     )
 
     -- the byte is done
     has_written : {l : ℕ} {z : Ticked} → At j i x WriteC64 false false 0 (latched block j) → Half block j x.m x.s → block.n - j ≢ 1
-        → After (reg x.u 1) (B i) (set x.m (bus_at block j) (latched block j)) x.s ReadC64 false false 0 ((bus_at block j + 1) % 65536) (((block.e + j) % 16777216 + 1) % 16777216) (block.n - j - 1) l z
+        → After (reg x.u 1) (B i) written x.s ReadC64 false false 0 ((bus_at block j + 1) % 65536) ((exp_at block j + 1) % 16777216) (block.n - j - 1) l z
         → Progress (suc j) (suc i) (after_tick z)
     has_written {l} {z} h hf more a =
         let left : block.n - j - 1 ≡ block.n - suc j = omega arith in
@@ -167,12 +178,12 @@ module _ (block : Block) (w₀ : Bool) (B : ℕ → Bool) where
           history = a.history;
           going = ap (λ (v : ℕ). v / 128 % 2) a.command ∙ h.going;
           stands =
-              subst (λ (q : ℕ). Stands z.0.reu ReadC64 false false 0 (bus_at block (suc j)) ((block.e + suc j) % 16777216) q l) left
+              subst (λ (q : ℕ). Stands z.0.reu ReadC64 false false 0 (bus_at block (suc j)) (exp_at block (suc j)) q l) left
               (subst₂ (λ (q q' : ℕ). Stands z.0.reu ReadC64 false false 0 q q' (block.n - j - 1) l) (next_bus block.c j) (next_storage block.e j) a.stands);
         })
         (subst₂ (Clean block (suc j)) (sym a.bus) (sym a.storage) (half_write block j h.lt x.m x.s hf))
 
-    has_ended : {z : Ticked} → j < block.n → Half block j x.m x.s → block.n - j ≡ 1 → Ends (reg x.u 1) (set x.m (bus_at block j) (latched block j)) x.s z
+    has_ended : {z : Ticked} → j < block.n → Half block j x.m x.s → block.n - j ≡ 1 → Ends (reg x.u 1) written x.s z
         → Progress (suc j) (suc i) (after_tick z)
     has_ended {z} lt hf last a =
         let all : suc j ≡ block.n = omega arith in
@@ -183,7 +194,7 @@ module _ (block : Block) (w₀ : Bool) (B : ℕ → Bool) where
 
     module _ (two : Going x → previous w₀ B i ≡ true → B i ≡ false → B (suc i) ≡ false) (len : length x.u.regs ≡ 11) (high low : Bool) (num : ℕ) where
       from_reading : {l : ℕ} (h : At j i x ReadC64 false false 0 l) (cl : Clean block j x.m x.s) (z : Ticked)
-          → Reads x.u (bus_at block j) ((block.e + j) % 16777216) (block.n - j) x.m x.s high num low (previous w₀ B i) (B i) l z
+          → Reads x.u (bus_at block j) (exp_at block j) (block.n - j) x.m x.s high num low (previous w₀ B i) (B i) l z
           → Stepped (reading l h cl) (after_tick z)
       from_reading h cl z (reads b a) = read_now (λ f. f) (has_read h cl a)
       from_reading {l} h cl z (waits b a) = waited b (reading l (next_at h a) (subst₂ (Clean block j) (sym a.bus) (sym a.storage) cl))
@@ -194,7 +205,7 @@ module _ (block : Block) (w₀ : Bool) (B : ℕ → Bool) where
           waited b (terminal (record { now = two h.going w b; was = b }) last r.0 r.1)
 
       from_writing : (h : At j i x WriteC64 false false 0 (latched block j)) (hf : Half block j x.m x.s) (z : Ticked)
-          → Writes x.u (bus_at block j) ((block.e + j) % 16777216) (block.n - j) x.m x.s high num low (previous w₀ B i) (B i) (latched block j) z
+          → Writes x.u (bus_at block j) (exp_at block j) (block.n - j) x.m x.s high num low (previous w₀ B i) (B i) (latched block j) z
           → Stepped (writing h hf) (after_tick z)
       from_writing h hf z (writes k b ne a) = completed (λ f. f) (has_written h hf ne a)
       from_writing h hf z (finishes b last a) = completed (λ f. f) (has_ended h.lt hf last a)
@@ -205,9 +216,9 @@ module _ (block : Block) (w₀ : Bool) (B : ℕ → Bool) where
             here =
                 writing
                 (subst (λ (q : ℕ). At j (suc i) (after_tick z) WriteC64 false false 0 q)
-                (again_latch block j h.lt x.m (folds block x.u.size j) (folds_to block x.u.size same j) x.s hf) (next_at h a))
+                (again_latch block j h.lt x.m at (folds_to block x.u.size same j) x.s hf) (next_at h a))
                 (subst₂ (Half block j) (sym a.bus) (sym a.storage)
-                (half_again block j h.lt x.m (folds block x.u.size j) (folds_to block x.u.size same j) x.s hf));
+                (half_again block j h.lt x.m at (folds_to block x.u.size same j) x.s hf));
             moves = λ hi lt. inr tt;
             fires = λ f w' hi. absurd (both_ways (previous w₀ B i) w w');
             slow = λ f. absurd f;
@@ -218,7 +229,7 @@ module _ (block : Block) (w₀ : Bool) (B : ℕ → Bool) where
       from_writing h hf z (gives_up b a) =
           waited b
           (reading (latched block j) (next_at h a)
-          (subst₂ (Clean block j) (sym a.bus) (sym a.storage) (half_back block j h.lt x.m (folds block x.u.size j) (folds_to block x.u.size same j) x.s hf)))
+          (subst₂ (Clean block j) (sym a.bus) (sym a.storage) (half_back block j h.lt x.m at (folds_to block x.u.size same j) x.s hf)))
 
       abbrev turned : Bool → Ticked
       turned phi1 = run_reu_cycle x.u x.m x.s high phi1 num low
@@ -227,35 +238,37 @@ module _ (block : Block) (w₀ : Bool) (B : ℕ → Bool) where
       pub step : (p : Progress j i x) → Stepped p (after_tick (turned (B i)))
       step (reading l h cl) =
           from_reading h cl (turned (B i))
-          (before_read x.u (bus_at block j) ((block.e + j) % 16777216) (block.n - j) x.m x.s high num low l (previous w₀ B i) (B i) h.history h.stands)
+          (before_read x.u (bus_at block j) (exp_at block j) (block.n - j) x.m x.s high num low l (previous w₀ B i) (B i) h.history h.stands)
       step (delayed_by_two l b h cl) =
-          let a = delayed_two x.u (bus_at block j) ((block.e + j) % 16777216) (block.n - j) x.m x.s high num low l (B i) h.stands in
+          let a = delayed_two x.u (bus_at block j) (exp_at block j) (block.n - j) x.m x.s high num low l (B i) h.stands in
           waited b.now (delayed_by_one l (next_at h a) (subst₂ (Clean block j) (sym a.bus) (sym a.storage) cl))
       step (delayed_by_one l h cl) =
-          read_now (λ f. f) (has_read h cl (delayed_one x.u (bus_at block j) ((block.e + j) % 16777216) (block.n - j) x.m x.s high num low l (B i) h.stands))
+          read_now (λ f. f) (has_read h cl (delayed_one x.u (bus_at block j) (exp_at block j) (block.n - j) x.m x.s high num low l (B i) h.stands))
       step (writing h hf) =
           from_writing h hf (turned (B i))
-          (before_write x.u (bus_at block j) ((block.e + j) % 16777216) (block.n - j) x.m x.s high num low len (latched block j) (previous w₀ B i) (B i) h.history h.stands)
+          (before_write x.u (bus_at block j) (exp_at block j) (block.n - j) x.m x.s high num low len (latched block j) (previous w₀ B i) (B i) h.history h.stands)
       step (refreshing b h hf) =
           let a =
           subst
-          (λ (y : Bool). After (reg x.u 1) y x.m (set x.s (folds block x.u.size j) (get_or x.m (bus_at block j) 0)) WriteC64 false false 0 (bus_at block j) ((block.e + j) % 16777216) (block.n - j) (latched block j) (turned y))
+          (λ (y : Bool). After (reg x.u 1) y x.m stored WriteC64 false false 0 (bus_at block j) (exp_at block j) (block.n - j) (latched block j) (turned y))
           (sym b.now)
-          (refreshed x.u (bus_at block j) ((block.e + j) % 16777216) (block.n - j) x.m x.s high num low (latched block j) (h.history ∙ b.was) h.stands) in
+          (refreshed x.u (bus_at block j) (exp_at block j) (block.n - j) x.m x.s high num low (latched block j) (h.history ∙ b.was) h.stands) in
           waited b.now
           (writing (next_at h a)
-          (subst₂ (Half block j) (sym a.bus) (sym a.storage) (half_refresh block j h.lt x.m (folds block x.u.size j) (folds_to block x.u.size same j) x.s hf)))
+          (subst₂ (Half block j) (sym a.bus) (sym a.storage) (half_refresh block j h.lt x.m at (folds_to block x.u.size same j) x.s hf)))
       step (terminal b last h hf) =
           completed (λ f. f)
           (has_ended h.lt hf last
-          (subst (λ (y : Bool). Ends (reg x.u 1) (set x.m (bus_at block j) (latched block j)) x.s (turned y)) (sym b.now)
-          (in_pair x.u (bus_at block j) ((block.e + j) % 16777216) (block.n - j) x.m x.s high num low len (latched block j) last (h.history ∙ b.was) h.stands)))
+          (subst (λ (y : Bool). Ends (reg x.u 1) written x.s (turned y)) (sym b.now)
+          (in_pair x.u (bus_at block j) (exp_at block j) (block.n - j) x.m x.s high num low len (latched block j) last (h.history ∙ b.was) h.stands)))
       step (over q k cl o) =
           let a = quiet_step_lem x.u k x.m x.s high (B i) num low in
           record {
             to = j;
             more = omega arith;
-            here = over q a.quiet (subst₂ (Clean block block.n) (sym a.step.bus) (sym a.step.storage) cl) (ap (λ (v : ℕ). v / 128 % 2) (a.step.kept.regs 1 (omega arith)) ∙ o);
+            here =
+                over q a.quiet (subst₂ (Clean block block.n) (sym a.step.bus) (sym a.step.storage) cl)
+                (ap (λ (v : ℕ). v / 128 % 2) (a.step.kept.regs 1 (omega arith)) ∙ o);
             moves = λ hi lt. absurd (omega arith);
             fires = λ f. absurd f;
             slow = λ f. absurd f;

@@ -85,6 +85,11 @@ pub record Stands (u : Reu) (p : SwapPhase) (t f : Bool) (d c e r l : ℕ) : Typ
 abbrev pub form : (u : Reu) (p : SwapPhase) (t f : Bool) (d c e r l : ℕ) (auto one odd was late : Bool) → Reu
 form u p t f d c e r l auto one odd was late = ready u t f d true was late (Some (swap_state p c e r l auto one odd))
 
+pub form_stands : (u : Reu) (p : SwapPhase) (t f : Bool) (d c e r l : ℕ) (auto one odd was late : Bool)
+    → Stands (form u p t f d c e r l auto one odd was late) p t f d c e r l
+form_stands u p t f d c e r l auto one odd was late =
+    record { terminal = refl; refresh = refl; delay = refl; attached = refl; auto = auto; one = one; odd = odd; transfer = refl }
+
 pub stands_is : {u : Reu} {p : SwapPhase} {t f : Bool} {d c e r l : ℕ} (h : Stands u p t f d c e r l) (w : Bool) → u.ba_was_high ≡ w
     → u ≡ form u p t f d c e r l h.auto h.one h.odd w u.late_ba_fall
 stands_is {u} h w q =

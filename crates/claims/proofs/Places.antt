@@ -71,13 +71,18 @@ pub record Block : Type 0 where
   pub storage_long : length storage ≡ 2 ^ L
 
 module _ (b : Block) where
-  -- the places of byte j; and the bytes that are there at first
+  -- the places of byte j
   abbrev pub bus_at : ℕ → ℕ
   bus_at = on_bus b.c
 
   abbrev pub storage_at : ℕ → ℕ
   storage_at = on_storage b.L b.e
 
+  -- its expansion address, of 24 bits
+  abbrev pub exp_at : ℕ → ℕ
+  exp_at j = (b.e + j) % 16777216
+
+  -- the bytes that are there at first
   abbrev pub sent : ℕ → ℕ
   sent j = get_or b.bus (bus_at j) 0
 
@@ -107,10 +112,10 @@ module _ (b : Block) where
 
   -- where a controller of this size folds byte j to
   abbrev pub folds : ℕ → ℕ → ℕ
-  folds size j = (b.e + j) % 16777216 % 2 ^ lines size
+  folds size j = exp_at j % 2 ^ lines size
 
   pub folds_to : (size : ℕ) → lines size ≡ b.L → (j : ℕ) → folds size j ≡ storage_at j
-  folds_to size same j = ap (λ (k : ℕ). (b.e + j) % 16777216 % 2 ^ k) same ∙ fold_fold (b.e + j) b.L 24 b.within
+  folds_to size same j = ap (λ (k : ℕ). exp_at j % 2 ^ k) same ∙ fold_fold (b.e + j) b.L 24 b.within
 
   -- at is byte j's place in the storage
   module _ (j : ℕ) (lt : j < b.n) (m : List ℕ) (at : ℕ) (is : at ≡ storage_at j) where

@@ -179,7 +179,8 @@ module _ (t : ScreenTime) (st : SwapStart t.before t.start) (tl : TwoLow t) wher
   pub shown_exchanged : (w : ℕ → ℕ) → ShownAll t.before w → (i : ℕ) → Ended (held_at t i) → Exchanged w t.before (held_at t i)
   unfolding opens
   shown_exchanged w shown i en =
-      shown_block t.before x (sym (opens_is t.before t.start st)) r.sound w shown (size_set t.before) (sym (size_is t.before st.can)) t.before (held_at t i) refl (exchanged i en)
+      shown_block t.before x (sym (opens_is t.before t.start st)) r.sound w shown (size_set t.before) (sym (size_is t.before st.can))
+      t.before (held_at t i) refl (exchanged i en)
 
   pub same_count : (i v : ℕ) → Ended (held_at t i) → occurrences v (held_at t i) ≡ occurrences v t.before
   unfolding opens

@@ -34,7 +34,7 @@ use Rattle.image.proofs.SoundCalls.{length_range}
 use Rattle.claims.proofs.CycleLaw.{Reading, Writing, Quiet, Kept, ReadStep, WriteStep, LastStep, IdleStep, read_step, write_step, last_step, idle_step, quiet_step_lem}
 use Rattle.claims.proofs.RegisterLaw.{Begun, start_law, Rewritten, rewritten_none, rewritten_keep, Value, rewrite_law, read_law, read_stays_quiet}
 use Rattle.claims.proofs.Exchange.{exch_zero}
-use Rattle.claims.proofs.Places.{next_bus, next_storage, Block, bus_at, storage_at, latched, Clean, Half, folds, folds_to, clean_latch, clean_read, half_write}
+use Rattle.claims.proofs.Places.{next_bus, next_storage, Block, bus_at, storage_at, exp_at, latched, Clean, Half, folds, folds_to, clean_latch, clean_read, half_write}
 use Rattle.claims.proofs.States.{St, held, on, step_of, number_of, Steady, keeps_size, Ready}
 use Rattle.claims.proofs.Accepted.{without_bus, answer_is}
 use Rattle.claims.proofs.Look.{ended_reg, reg_ended, Idling}
@@ -79,11 +79,11 @@ Allowed W a v = OfBlock (register a) × Value W (register a) v
 module _ (W : ℕ → ℕ) (b : Block) where
   pub data Progress (k : ℕ) (g : ℕ → ℕ) (x : St) : Type 0 where
     reading :
-        (j : ℕ) → j < b.n → k ≡ 2 * j → ((r : ℕ) → g r ≡ 0) → Reading x.u (bus_at b j) ((b.e + j) % 16777216) (b.n - j)
+        (j : ℕ) → j < b.n → k ≡ 2 * j → ((r : ℕ) → g r ≡ 0) → Reading x.u (bus_at b j) (exp_at b j) (b.n - j)
         → Clean b j x.m x.s → reg x.u 1 / 128 % 2 ≡ 1 → reg x.u 10 / 64 ≡ 0 → Progress k g x
     writing :
         (j : ℕ) → j < b.n → k ≡ 2 * j + 1 → ((r : ℕ) → g r ≡ 0)
-        → Writing x.u (bus_at b j) ((b.e + j) % 16777216) (b.n - j) (latched b j) → Half b j x.m x.s
+        → Writing x.u (bus_at b j) (exp_at b j) (b.n - j) (latched b j) → Half b j x.m x.s
         → reg x.u 1 / 128 % 2 ≡ 1 → reg x.u 10 / 64 ≡ 0 → Progress k g x
     over :
         k ≡ 2 * b.n → Quiet x.u → Rewritten W g x.u → Clean b b.n x.m x.s
@@ -92,11 +92,11 @@ module _ (W : ℕ → ℕ) (b : Block) where
   -- one granted cycle of the read phase
   cycle_reads : (k : ℕ) (g : ℕ → ℕ) (x : St) → lines x.u.size ≡ b.L → (j : ℕ) → j < b.n → k ≡ 2 * j → ((r : ℕ) → g r ≡ 0)
       → Clean b j x.m x.s → reg x.u 1 / 128 % 2 ≡ 1 → reg x.u 10 / 64 ≡ 0
-      → (t : Ticked) (a : ReuBusAction) → ReadStep x.u (bus_at b j) ((b.e + j) % 16777216) (b.n - j) x.m x.s t a
+      → (t : Ticked) (a : ReuBusAction) → ReadStep x.u (bus_at b j) (exp_at b j) (b.n - j) x.m x.s t a
       → Progress (1 + k) g (after_tick t)
   cycle_reads k g x same j lt ek zero' ex one free t a st =
       writing j lt (omega arith) zero'
-      (subst (λ (v : ℕ). Writing t.0.reu (bus_at b j) ((b.e + j) % 16777216) (b.n - j) v)
+      (subst (λ (v : ℕ). Writing t.0.reu (bus_at b j) (exp_at b j) (b.n - j) v)
       (clean_latch b j lt x.m (folds b x.u.size j) (folds_to b x.u.size same j) x.s ex)
       st.phase)
       (subst₂ (Half b j) (sym st.bus) (sym st.storage)
@@ -107,14 +107,14 @@ module _ (W : ℕ → ℕ) (b : Block) where
   -- one granted cycle of the write phase, of a byte that is not the last
   cycle_writes : (k : ℕ) (g : ℕ → ℕ) (x : St) (j : ℕ) → suc j < b.n → k ≡ 2 * j + 1 → ((r : ℕ) → g r ≡ 0) → Half b j x.m x.s
       → reg x.u 1 / 128 % 2 ≡ 1 → reg x.u 10 / 64 ≡ 0
-      → (t : Ticked) (a : ReuBusAction) → WriteStep x.u (bus_at b j) ((b.e + j) % 16777216) (b.n - j) (latched b j) x.m x.s t a
+      → (t : Ticked) (a : ReuBusAction) → WriteStep x.u (bus_at b j) (exp_at b j) (b.n - j) (latched b j) x.m x.s t a
       → Progress (1 + k) g (after_tick t)
   cycle_writes k g x j lt ek zero' half one free t a st =
       let left : b.n - j - 1 ≡ b.n - suc j = omega arith in
       reading (suc j) lt (omega arith) zero'
-      (subst (λ (q : ℕ). Reading t.0.reu (bus_at b (suc j)) ((b.e + suc j) % 16777216) q) left
+      (subst (λ (q : ℕ). Reading t.0.reu (bus_at b (suc j)) (exp_at b (suc j)) q) left
       (subst (λ (q : ℕ). Reading t.0.reu (bus_at b (suc j)) q (b.n - j - 1)) (next_storage b.e j)
-      (subst (λ (q : ℕ). Reading t.0.reu q (((b.e + j) % 16777216 + 1) % 16777216) (b.n - j - 1)) (next_bus b.c j) st.phase)))
+      (subst (λ (q : ℕ). Reading t.0.reu q ((exp_at b j + 1) % 16777216) (b.n - j - 1)) (next_bus b.c j) st.phase)))
       (subst₂ (Clean b (suc j)) (sym st.bus) (sym st.storage)
       (half_write b j (omega arith) x.m x.s half))
       (ap (λ (q : ℕ). q / 128 % 2) st.command ∙ one) (ap (λ (q : ℕ). q / 64) st.control ∙ free)
@@ -141,7 +141,7 @@ module _ (W : ℕ → ℕ) (b : Block) where
   cycled : (k : ℕ) (g : ℕ → ℕ) (x : St) (low : Bool) (i : ℕ) → Sound x.u → lines x.u.size ≡ b.L → Progress k g x
       → Cycled k g (run_reu_cycle x.u x.m x.s true true i low) (core_bus_action x.u x.s true true i).0.action
   cycled k g x low i sound same (reading j lt ek zero' rd ex one free) =
-      let st = read_step x.u (bus_at b j) ((b.e + j) % 16777216) (b.n - j) rd x.m x.s true i low in
+      let st = read_step x.u (bus_at b j) (exp_at b j) (b.n - j) rd x.m x.s true i low in
       moves st.granted (cycle_reads k g x same j lt ek zero' ex one free _ _ st)
   cycled k g x low i sound same (writing j lt ek zero' wr half one free) = go (ℕ_discrete (b.n - j) 1)
     where
@@ -150,11 +150,11 @@ module _ (W : ℕ → ℕ) (b : Block) where
 
       go : Dec (b.n - j ≡ 1) → Cycled k g (run_reu_cycle x.u x.m x.s true true i low) (core_bus_action x.u x.s true true i).0.action
       go (yes q) =
-          let st = last_step x.u (bus_at b j) ((b.e + j) % 16777216) latch (subst (λ (r : ℕ). Writing x.u (bus_at b j) ((b.e + j) % 16777216) r latch) q wr)
+          let st = last_step x.u (bus_at b j) (exp_at b j) latch (subst (λ (r : ℕ). Writing x.u (bus_at b j) (exp_at b j) r latch) q wr)
           sound.regs.len x.m x.s true i low in
           moves st.granted (cycle_lasts k g x j (omega arith) ek zero' half free _ _ st)
       go (no q) =
-          let st = write_step x.u (bus_at b j) ((b.e + j) % 16777216) (b.n - j) latch wr (ne_eqb (b.n - j) 1 q) x.m x.s true i low in
+          let st = write_step x.u (bus_at b j) (exp_at b j) (b.n - j) latch wr (ne_eqb (b.n - j) 1 q) x.m x.s true i low in
           moves st.granted (cycle_writes k g x j (omega arith) ek zero' half one free _ _ st)
   cycled k g x low i sound same (over ek q re ex ended free) =
       let st = quiet_step_lem x.u q x.m x.s true true i low in
@@ -301,13 +301,13 @@ module _ (x : St) (ready : Ready x) where
   )
 
   -- a swap that is to read its first byte
-  pub first_stands : {w : Reu} → Reading w (c64_of x.u) (exp_of x.u) (len_of x.u) → Reading w (bus_at block 0) ((block.e + 0) % 16777216) (block.n - 0)
+  pub first_stands : {w : Reu} → Reading w (c64_of x.u) (exp_of x.u) (len_of x.u) → Reading w (bus_at block 0) (exp_at block 0) (block.n - 0)
   first_stands {w} h =
       let small : word (reg x.u 2) (reg x.u 3) < 65536 = small_word 2 3 in
       let small' : word (reg x.u 4) (reg x.u 5) < 65536 = small_word 4 5 in
       let bank : reg x.u 6 < 256 = (ready.sound.regs.fits 6).byte in
       let ec : c64_of x.u ≡ bus_at block 0 = omega arith in
-      let ee : exp_of x.u ≡ (block.e + 0) % 16777216 = omega arith in
+      let ee : exp_of x.u ≡ exp_at block 0 = omega arith in
       let er : len_of x.u ≡ block.n - 0 = omega arith in
       subst₃ (Reading w) ec ee er h
 
