@@ -17,7 +17,7 @@ use Rattle.controller.specs.TickDma.{Ticked}
 use Rattle.controller.specs.Cycle.{run_reu_cycle}
 use Rattle.claims.proofs.CycleLaw.{Quiet, Stands, swap_state, quiet_step_lem}
 use Rattle.claims.proofs.BaLaw.{After, Ends, Reads, reads, waits, delays, pairs, Writes, writes, finishes, again, stays, refreshes, gives_up, before_read, delayed_two, delayed_one, before_write, in_pair, refreshed}
-use Rattle.claims.proofs.Places.{next_bus, next_storage, Block, bus_at, exp_at, latched, Clean, Half, folds, folds_to, clean_latch, clean_read, half_back, half_again, again_latch, half_refresh, half_write}
+use Rattle.claims.proofs.Places.{next_bus, next_storage, Block, bus_at, exp_at, latched, Clean, Half, folds, folds_to, clean_latch, clean_read, half_back, half_again, again_latch, half_refresh, half_write, Partly, clean_part, half_part}
 use Rattle.claims.proofs.States.{St}
 use Rattle.claims.proofs.Swap.{after_tick, command_ends}
 
@@ -60,6 +60,7 @@ module _ (block : Block) (w₀ : Bool) (B : ℕ → Bool) where
     pub state : DmaState
     pub transfer : x.u.dma ≡ Some state
     pub remaining : state.remaining ≡ block.n - j
+    pub part : Partly block j x.m x.s
 
   pub record Over (j : ℕ) (x : St) : Type 0 where
     pub total : j ≡ block.n
@@ -67,26 +68,27 @@ module _ (block : Block) (w₀ : Bool) (B : ℕ → Bool) where
     pub exch : Clean block block.n x.m x.s
     pub ended : reg x.u 1 / 128 % 2 ≡ 0
 
-  live : {j i : ℕ} {x : St} {p : SwapPhase} {t f : Bool} {d l : ℕ} → At j i x p t f d l → Live j x
-  live {j} {p = p} {l = l} a =
+  live : {j i : ℕ} {x : St} {p : SwapPhase} {t f : Bool} {d l : ℕ} → At j i x p t f d l → Partly block j x.m x.s → Live j x
+  live {j} {p = p} {l = l} a part =
       record {
         lt = a.lt;
         going = a.going;
         state = swap_state p (bus_at block j) (exp_at block j) (block.n - j) l a.stands.auto a.stands.one a.stands.odd;
         transfer = a.stands.transfer;
         remaining = refl;
+        part = part;
       }
 
   pub view : (j i : ℕ) (x : St) → Progress j i x → Live j x ⊎ Over j x
-  view j i x (reading l a h) = inl (live a)
-  view j i x (delayed_by_two l b a h) = inl (live a)
-  view j i x (delayed_by_one l a h) = inl (live a)
-  view j i x (writing a h) = inl (live a)
-  view j i x (refreshing b a h) = inl (live a)
-  view j i x (terminal b r a h) = inl (live a)
+  view j i x (reading l a h) = inl (live a (clean_part block j x.m x.s h))
+  view j i x (delayed_by_two l b a h) = inl (live a (clean_part block j x.m x.s h))
+  view j i x (delayed_by_one l a h) = inl (live a (clean_part block j x.m x.s h))
+  view j i x (writing a h) = inl (live a (half_part block j a.lt x.m x.s h))
+  view j i x (refreshing b a h) = inl (live a (half_part block j a.lt x.m x.s h))
+  view j i x (terminal b r a h) = inl (live a (half_part block j a.lt x.m x.s h))
   view j i x (over q k h o) = inr (record { total = q; quiet = k; exch = h; ended = o })
 
-  -- its write comes next; its read does
+  -- its write comes next
   abbrev pub IsWriting : {j i : ℕ} {x : St} → Progress j i x → Type 0
   IsWriting (reading l a h) = ⊥
   IsWriting (delayed_by_two l b a h) = ⊥
@@ -95,15 +97,6 @@ module _ (block : Block) (w₀ : Bool) (B : ℕ → Bool) where
   IsWriting (refreshing b a h) = ⊥
   IsWriting (terminal b r a h) = ⊥
   IsWriting (over q k h o) = ⊥
-
-  abbrev pub IsReading : {j i : ℕ} {x : St} → Progress j i x → Type 0
-  IsReading (reading l a h) = Unit {0}
-  IsReading (delayed_by_two l b a h) = ⊥
-  IsReading (delayed_by_one l a h) = ⊥
-  IsReading (writing a h) = ⊥
-  IsReading (refreshing b a h) = ⊥
-  IsReading (terminal b r a h) = ⊥
-  IsReading (over q k h o) = ⊥
 
   -- ---- one call
 
@@ -115,8 +108,6 @@ module _ (block : Block) (w₀ : Bool) (B : ℕ → Bool) where
     pub moves : B i ≡ true → j < block.n → (j < to) ⊎ IsWriting here
     -- a write that comes next is done if BA stays high
     pub fires : IsWriting p → previous w₀ B i ≡ true → B i ≡ true → j < to
-    -- a read completes no byte
-    pub slow : IsReading p → to ≡ j
 
   -- a low call that completes no byte; a call that reads; one that completes a byte
   waited : {j i : ℕ} {x y : St} {p : Progress j i x} → B i ≡ false → Progress j (suc i) y → Stepped p y
@@ -127,17 +118,16 @@ module _ (block : Block) (w₀ : Bool) (B : ℕ → Bool) where
         here = here;
         moves = λ hi lt. absurd (both_ways (B i) b hi);
         fires = λ f w hi. absurd (both_ways (B i) b hi);
-        slow = λ f. refl;
       }
 
   read_now : {j i : ℕ} {x y : St} {p : Progress j i x} → (IsWriting p → ⊥)
       → At j (suc i) y WriteC64 false false 0 (latched block j) × Half block j y.m y.s → Stepped p y
   read_now {j} not_write w =
-      record { to = j; more = omega arith; here = writing w.0 w.1; moves = λ hi lt. inr tt; fires = λ f. absurd (not_write f); slow = λ f. refl }
+      record { to = j; more = omega arith; here = writing w.0 w.1; moves = λ hi lt. inr tt; fires = λ f. absurd (not_write f) }
 
-  completed : {j i : ℕ} {x y : St} {p : Progress j i x} → (IsReading p → ⊥) → Progress (suc j) (suc i) y → Stepped p y
-  completed {j} not_read here =
-      record { to = suc j; more = omega arith; here = here; moves = λ hi lt. inl (omega arith); fires = λ f w hi. omega arith; slow = λ f. absurd (not_read f) }
+  completed : {j i : ℕ} {x y : St} {p : Progress j i x} → Progress (suc j) (suc i) y → Stepped p y
+  completed {j} here =
+      record { to = suc j; more = omega arith; here = here; moves = λ hi lt. inl (omega arith); fires = λ f w hi. omega arith }
 
   module _ (j i : ℕ) (x : St) (same : lines x.u.size ≡ block.L) where
     -- where byte j is folded to, the storage after its read, and the bus after its write
@@ -207,8 +197,8 @@ module _ (block : Block) (w₀ : Bool) (B : ℕ → Bool) where
       from_writing : (h : At j i x WriteC64 false false 0 (latched block j)) (hf : Half block j x.m x.s) (z : Ticked)
           → Writes x.u (bus_at block j) (exp_at block j) (block.n - j) x.m x.s high num low (previous w₀ B i) (B i) (latched block j) z
           → Stepped (writing h hf) (after_tick z)
-      from_writing h hf z (writes k b ne a) = completed (λ f. f) (has_written h hf ne a)
-      from_writing h hf z (finishes b last a) = completed (λ f. f) (has_ended h.lt hf last a)
+      from_writing h hf z (writes k b ne a) = completed (has_written h hf ne a)
+      from_writing h hf z (finishes b last a) = completed (has_ended h.lt hf last a)
       from_writing h hf z (again w b a) =
           record {
             to = j;
@@ -221,7 +211,6 @@ module _ (block : Block) (w₀ : Bool) (B : ℕ → Bool) where
                 (half_again block j h.lt x.m at (folds_to block x.u.size same j) x.s hf));
             moves = λ hi lt. inr tt;
             fires = λ f w' hi. absurd (both_ways (previous w₀ B i) w w');
-            slow = λ f. absurd f;
           }
       from_writing h hf z (stays b a) = waited b (writing (next_at h a) (subst₂ (Half block j) (sym a.bus) (sym a.storage) hf))
       from_writing h hf z (refreshes w b a) =
@@ -257,7 +246,7 @@ module _ (block : Block) (w₀ : Bool) (B : ℕ → Bool) where
           (writing (next_at h a)
           (subst₂ (Half block j) (sym a.bus) (sym a.storage) (half_refresh block j h.lt x.m at (folds_to block x.u.size same j) x.s hf)))
       step (terminal b last h hf) =
-          completed (λ f. f)
+          completed
           (has_ended h.lt hf last
           (subst (λ (y : Bool). Ends (reg x.u 1) written x.s (turned y)) (sym b.now)
           (in_pair x.u (bus_at block j) (exp_at block j) (block.n - j) x.m x.s high num low len (latched block j) last (h.history ∙ b.was) h.stands)))
@@ -271,5 +260,4 @@ module _ (block : Block) (w₀ : Bool) (B : ℕ → Bool) where
                 (ap (λ (v : ℕ). v / 128 % 2) (a.step.kept.regs 1 (omega arith)) ∙ o);
             moves = λ hi lt. absurd (omega arith);
             fires = λ f. absurd f;
-            slow = λ f. absurd f;
           }

@@ -1,4 +1,5 @@
--- What one cycle does, BA high: to an idle controller, and to a swap in each of its phases.
+-- What one cycle does: with BA high, to an idle controller and to a swap in each of its phases; and whatever BA is, the tick of a swap's last
+-- write, and a cycle behind a swap.
 use Prim.Native.Nat.{ℕ, ◌+◌, ◌-◌, ◌%◌, ◌^◌, ◌<◌}
 use mathlib.Core.Bool.{Bool, true, false, cond, not}
 use mathlib.Core.Path.{◌≡◌, refl, sym, ap, ◌∙◌, subst}
@@ -358,18 +359,24 @@ pub record QuietStep (u : Reu) (m s : List ℕ) (t : Ticked) (a : ReuBusAction) 
   pub step : IdleStep u m s t
   pub quiet : Quiet t.0.reu
 
+rests : {answer was repeat late : Bool} {count : ℕ} (u : Reu) (refresh w l : Bool) (m s : List ℕ)
+    → QuietStep (ready u false refresh 0 true w l None) m s (
+      ticked answer neither None
+          (record (ready u false refresh 0 true w l None) { ba_was_high = was; recall_repeat = repeat; late_ba_fall = late; granted_cycles = count }),
+      m,
+      s,
+    ) Cpu
+rests u refresh w l m s =
+    record { granted = refl; step = still (ready u false refresh 0 true w l None) m s; quiet = record { terminal = refl; delay = refl; attached = refl; idle = refl } }
+
 quiet_ready : (u : Reu) (refresh was late : Bool) (m s : List ℕ) (high phi1 : Bool) (n : ℕ) (low : Bool)
     → QuietStep (ready u false refresh 0 true was late None) m s (run_reu_cycle (ready u false refresh 0 true was late None) m s high phi1 n low)
     (bus_action (ready u false refresh 0 true was late None) s high phi1 n).0.action
 unfolding cycle_computed
-quiet_ready u refresh true late m s high true n low =
-    record { granted = refl; step = still (ready u false refresh 0 true true late None) m s; quiet = record { terminal = refl; delay = refl; attached = refl; idle = refl } }
-quiet_ready u refresh true late m s high false n low =
-    record { granted = refl; step = still (ready u false refresh 0 true true late None) m s; quiet = record { terminal = refl; delay = refl; attached = refl; idle = refl } }
-quiet_ready u refresh false late m s high true n low =
-    record { granted = refl; step = still (ready u false refresh 0 true false late None) m s; quiet = record { terminal = refl; delay = refl; attached = refl; idle = refl } }
-quiet_ready u refresh false late m s high false n low =
-    record { granted = refl; step = still (ready u false refresh 0 true false late None) m s; quiet = record { terminal = refl; delay = refl; attached = refl; idle = refl } }
+quiet_ready u refresh true late m s high true n low = rests u refresh true late m s
+quiet_ready u refresh true late m s high false n low = rests u refresh true late m s
+quiet_ready u refresh false late m s high true n low = rests u refresh false late m s
+quiet_ready u refresh false late m s high false n low = rests u refresh false late m s
 
 pub quiet_step_lem : (u : Reu) → Quiet u → (m s : List ℕ) (high phi1 : Bool) (n : ℕ) (low : Bool)
     → QuietStep u m s (run_reu_cycle u m s high phi1 n low) (bus_action u s high phi1 n).0.action

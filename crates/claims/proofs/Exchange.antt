@@ -65,8 +65,38 @@ module _ (C E : ℕ → ℕ) where
         storage_size = length-set s (E n) (get_or m₀ (C n) 0) ∙ x.storage_size;
       }
 
+  -- of n pairs the first d have changed places, and nothing else has changed, but that the second list may have the first's next one
+  pub record Part (d n : ℕ) (m₀ s₀ m s : List ℕ) : Type 0 where
+    pub to_bus : (i : ℕ) → i < d → get_or m (C i) 0 ≡ get_or s₀ (E i) 0
+    pub to_storage : (i : ℕ) → i < d → get_or s (E i) 0 ≡ get_or m₀ (C i) 0
+    pub other_bus : (x : ℕ) → ((i : ℕ) → i < d → x ≢ C i) → get_or m x 0 ≡ get_or m₀ x 0
+    pub other_storage : (x : ℕ) → ((i : ℕ) → i ≤ d → x ≢ E i) → get_or s x 0 ≡ get_or s₀ x 0
+    pub next : d < n → (get_or s (E d) 0 ≡ get_or s₀ (E d) 0) ⊎ (get_or s (E d) 0 ≡ get_or m₀ (C d) 0)
+
+  pub exch_part : (d n : ℕ) (m₀ s₀ m s : List ℕ) → Exch d m₀ s₀ m s → ((i : ℕ) → i < d → d < n → E i ≢ E d) → Part d n m₀ s₀ m s
+  exch_part d n m₀ s₀ m s x apart =
+      record {
+        to_bus = x.to_bus;
+        to_storage = x.to_storage;
+        other_bus = x.other_bus;
+        other_storage = λ j nw. x.other_storage j (λ i h. nw i (omega arith));
+        next = λ more. inl (x.other_storage (E d) (λ i h q. apart i h more (sym q)));
+      }
+
+  -- the next one put into the second list
+  pub part_next : (d n : ℕ) (m₀ s₀ m s : List ℕ) → Exch d m₀ s₀ m s → E d < length s → ((i : ℕ) → i < d → E i ≢ E d)
+      → Part d n m₀ s₀ m (set s (E d) (get_or m₀ (C d) 0))
+  part_next d n m₀ s₀ m s x fits apart =
+      record {
+        to_bus = x.to_bus;
+        to_storage = λ i h. get_or-set_other s (E d) (E i) (get_or m₀ (C d) 0) 0 (apart i h) ∙ x.to_storage i h;
+        other_bus = x.other_bus;
+        other_storage = λ j nw. get_or-set_other s (E d) j (get_or m₀ (C d) 0) 0 (nw d (omega arith)) ∙ x.other_storage j (λ i h. nw i (omega arith));
+        next = λ more. inr (get_or-set_same s (E d) (get_or m₀ (C d) 0) 0 fits);
+      }
+
   -- what is exchanged is determined
-  pub exch_only : (n : ℕ) (m₀ s₀ m s m' s' : List ℕ) → Exch n m₀ s₀ m s → Exch n m₀ s₀ m' s' → (m ≡ m') × (s ≡ s')
+  exch_only : (n : ℕ) (m₀ s₀ m s m' s' : List ℕ) → Exch n m₀ s₀ m s → Exch n m₀ s₀ m' s' → (m ≡ m') × (s ≡ s')
   exch_only n m₀ s₀ m s m' s' x y = (
     ext_get_or 0 m m' (x.bus_length ∙ sym y.bus_length) (λ j h. bus j (place C n j)),
     ext_get_or 0 s s' (x.storage_size ∙ sym y.storage_size) (λ j h. sto j (place E n j)),

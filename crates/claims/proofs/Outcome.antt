@@ -14,10 +14,11 @@ use Rattle.transfer.specs.Memory.{lines}
 use Rattle.transfer.proofs.Sizes.{size_lines, fold_fold}
 use Rattle.claims.specs.Calls.{Held, Kind, read, cycle, NumbersFit, Call, leaves, accepts, next, after, Each, count}
 use Rattle.claims.specs.SwapTwice.{size_set, IsIdle, Start, Step, cycles, reads, writes, AnyStep, NoWrite, register, wrote, granted, High, Run, OfBlock, Shown, ShownAll, bus_place, storage_place, block_length, Exchanged, SwapsAtOnce, Rewrites, Ended, OnceEnded, Swap, Parts, list_of, at_start, at_restart, RunA, RunB, EndsAt, Outcome}
+use Rattle.claims.specs.SwapOnScreen.{Midway}
 use Rattle.image.proofs.Sound.{Sound}
 use Rattle.claims.proofs.RegisterLaw.{read_law, Value, pair_done}
 use Rattle.claims.proofs.Places.{on_bus, on_storage}
-use Rattle.claims.proofs.Exchange.{Exch, exch_twice}
+use Rattle.claims.proofs.Exchange.{Exch, Part, exch_twice}
 use Rattle.claims.proofs.States.{St, Good, held, on, step_of, number_of, keeps_size, good_step, Ready, ready_of, good_of}
 use Rattle.claims.proofs.Accepted.{leaves_is}
 use Rattle.claims.proofs.Walk.{after_append, each_left, each_right, each_both, each_of_all, widen, At, each_at, number_at, next_is, Walked, walk}
@@ -172,13 +173,27 @@ module _ (k : Held) (x : St) (e : k ≡ held x) (sound : Sound x.u) (w : ℕ →
       = omega (arith, shows 7 (omega arith) (omega arith), shows 8 (omega arith) (omega arith)) in
       ap length_of q
 
+  places_are : (P : (C E : ℕ → ℕ) (n : ℕ) → Type 0) → P (on_bus (c64_of x.u)) (on_storage (lines x.u.size) (exp_of x.u)) (len_of x.u)
+      → P (bus_place w) (storage_place size w) (block_length w)
+  places_are P h = subst₃ P (fun_ext bus_place_lem) (fun_ext storage_place_lem) block_length_lem h
+
   pub shown_block : (a b : Held) → size_set a ≡ size
       → Exch (on_bus (c64_of x.u)) (on_storage (lines x.u.size) (exp_of x.u)) (len_of x.u) a.bus a.storage b.bus b.storage
       → Exchanged w a b
   shown_block a b same ex =
       let f : Exch (bus_place w) (storage_place (size_set a) w) (block_length w) a.bus a.storage b.bus b.storage
-      = subst₃ (λ (C E : ℕ → ℕ) (n : ℕ). Exch C E n a.bus a.storage b.bus b.storage) (fun_ext bus_place_lem) (fun_ext (λ i. storage_place_lem i ∙ ap (λ (n : ℕ). storage_place n w i) (sym same))) block_length_lem ex in
+      = subst (λ (q : ℕ). Exch (bus_place w) (storage_place q w) (block_length w) a.bus a.storage b.bus b.storage) (sym same)
+      (places_are (λ (C E : ℕ → ℕ) (n : ℕ). Exch C E n a.bus a.storage b.bus b.storage) ex) in
       record { to_bus = f.to_bus; to_storage = f.to_storage; other_bus = f.other_bus; other_storage = f.other_storage; bus_length = f.bus_length; storage_size = f.storage_size }
+
+  pub shown_part : (d : ℕ) (a b : Held) → size_set a ≡ size
+      → Part (on_bus (c64_of x.u)) (on_storage (lines x.u.size) (exp_of x.u)) d (len_of x.u) a.bus a.storage b.bus b.storage
+      → Midway d w a b
+  shown_part d a b same part =
+      let f : Part (bus_place w) (storage_place (size_set a) w) d (block_length w) a.bus a.storage b.bus b.storage
+      = subst (λ (q : ℕ). Part (bus_place w) (storage_place q w) d (block_length w) a.bus a.storage b.bus b.storage) (sym same)
+      (places_are (λ (C E : ℕ → ℕ) (n : ℕ). Part C E d n a.bus a.storage b.bus b.storage) part) in
+      record { to_bus = f.to_bus; to_storage = f.to_storage; other_bus = f.other_bus; other_storage = f.other_storage; next = f.next }
 
 -- ---- run A
 

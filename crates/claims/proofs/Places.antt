@@ -14,7 +14,7 @@ use native.Mathlib.Omega.{arith}
 use borrow.Author.Tests.{leb-true, leb-false}
 use Rattle.transfer.specs.Memory.{lines}
 use Rattle.transfer.proofs.Sizes.{fold_fold}
-use Rattle.claims.proofs.Exchange.{Exch, exch_next, together, exch_count}
+use Rattle.claims.proofs.Exchange.{Exch, exch_next, Part, exch_part, part_next, together, exch_count}
 
 abbrev pub on_bus : ℕ → ℕ → ℕ
 on_bus c i = (c + i) % 65536
@@ -23,7 +23,7 @@ on_bus c i = (c + i) % 65536
 abbrev pub on_storage : ℕ → ℕ → ℕ → ℕ
 on_storage lines e i = (e + i) % 2 ^ lines
 
-pub bus_apart : (c i j : ℕ) → i < j → j < 65536 → on_bus c i ≢ on_bus c j
+bus_apart : (c i j : ℕ) → i < j → j < 65536 → on_bus c i ≢ on_bus c j
 bus_apart c i j h k = omega arith
 
 -- two numbers that are less than p apart have other remainders
@@ -43,7 +43,7 @@ remainders p a b lt near e = go (leb (b / p) (a / p)) refl
         omega (arith, da, db, mul-suc p (a / p))
 
 -- a block has at most 65,536 bytes, which 16 lines or more keep apart
-pub storage_apart : (lines e i j : ℕ) → 16 ≤ lines → i < j → j < 65536 → on_storage lines e i ≢ on_storage lines e j
+storage_apart : (lines e i j : ℕ) → 16 ≤ lines → i < j → j < 65536 → on_storage lines e i ≢ on_storage lines e j
 storage_apart lines e i j wide h k =
     let most : 65536 ≤ 2 ^ lines = pow_mono wide in
     remainders (2 ^ lines) (e + i) (e + j) (omega arith) (omega arith)
@@ -167,6 +167,19 @@ module _ (b : Block) where
       rw x.now
       (exch_next bus_at storage_at j b.bus b.storage m x.old x.clean (in_bus j) (in_storage j)
       (λ i h. bus_unlike i j h lt) (λ i h. storage_unlike i j h lt))
+
+  -- and what all of the memories is on the way
+  abbrev pub Partly : ℕ → List ℕ → List ℕ → Type 0
+  Partly j m s = Part bus_at storage_at j b.n b.bus b.storage m s
+
+  pub clean_part : (j : ℕ) (m s : List ℕ) → Clean j m s → Partly j m s
+  clean_part j m s x = exch_part bus_at storage_at j b.n b.bus b.storage m s x (λ i h more. storage_unlike i j h more)
+
+  pub half_part : (j : ℕ) → j < b.n → (m s : List ℕ) → Half j m s → Partly j m s
+  half_part j lt m s x =
+      rw x.now
+      (part_next bus_at storage_at j b.n b.bus b.storage m x.old x.clean
+      (subst (λ (k : ℕ). storage_at j < k) (sym x.clean.storage_size) (in_storage j)) (λ i h. storage_unlike i j h lt))
 
   -- when all bytes have changed places, each value occurs as often as before
   pub clean_count : (v : ℕ) (m s : List ℕ) → Clean b.n m s → together bus_at storage_at v m s ≡ together bus_at storage_at v b.bus b.storage

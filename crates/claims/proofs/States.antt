@@ -232,7 +232,7 @@ ready_left x r k s z f =
     subst (λ (n : ℕ). With (Sized bus_size) (Sized n) (step_of k x)) (sym (keeps_size k x s))
     (step (Sized bus_size) (Sized x.u.size) (sized_memory bus_size) (sized_memory x.u.size) x r k z f)
 
--- a cycle call leaves such memories by any numbers
+-- a cycle call leaves a state that no call refuses, even where its numbers do not fit
 pub cycle_left : (x : St) → Ready x → (h n l i : ℕ) → Ready (step_of (cycle h n l i) x)
 cycle_left x r h n l i =
     subst (λ (k : ℕ). With (Sized bus_size) (Sized k) (step_of (cycle h n l i) x)) (sym (keeps_size (cycle h n l i) x tt))

@@ -23,7 +23,7 @@ use Rattle.claims.specs.Constants.{flags_byte}
 use Rattle.claims.specs.Calls.{Held, Memories, trigger_ff00, Kind, write, cycle, other, does}
 use Rattle.claims.specs.SwapTwice.{byte, size_set, CanStart, ShownAll, bus_place, storage_place, block_length, swaps, Ended}
 use Rattle.claims.specs.Sessions.{begin, r16, run}
-use Rattle.claims.specs.SwapOnScreen.{by_command, by_ff00, SwapStart, LateClear, ScreenTime, held_at, Runs, high_at, LowStretch, Touches, TwoLow, Besides, left, Swaps, Course, Follows, enough, screen, screen_calls, r16_time, Alone, SwapOnScreen}
+use Rattle.claims.specs.SwapOnScreen.{by_command, by_ff00, SwapStart, LateClear, ScreenTime, held_at, Runs, high_at, LowStretch, Touches, TwoLow, Besides, left, Swaps, Course, Follows, enough, turns, turns_calls, screen, screen_calls, r16_time, Alone, SwapOnScreen}
 use Rattle.claims.proofs.States.{St, held, step_of, Ready}
 use Rattle.claims.proofs.Accepted.{leaves_is, ready_number, ready_step}
 use Rattle.claims.proofs.Look.{reg_byte, armed_bit, late_bit, size_byte, can_start, opened, size_is, opened_ready, opened_is, opened_attached, opened_free}
@@ -32,7 +32,7 @@ use Rattle.claims.proofs.Outcome.{block_length_lem, bus_place_lem, storage_place
 use Rattle.claims.proofs.SomeRuns.{enabled_new, enabled_sound, some_start as idle_start}
 use Rattle.claims.proofs.Sessions.{AllFit, to, start, calls_computed, late_fall, played, ready_played}
 use Rattle.claims.proofs.ScreenStart.{opens, opens_ready, opens_is, first_is, first_runs, first_left, accepted}
-use Rattle.claims.proofs.ScreenRun.{shown_exchanged, same_count, completes, ends_high, ends_there, second_runs}
+use Rattle.claims.proofs.ScreenRun.{shown_exchanged, shown_midway, same_count, completes, ends_high, ends_turns, second_runs}
 
 -- ---- courses of BA
 
@@ -164,18 +164,21 @@ module _ (t : ScreenTime) (w : ℕ → ℕ) (st : SwapStart t.before t.start) (s
 
   swaps_by : TwoLow t → (calls : ℕ) → 2 ≤ calls → Swaps calls t w
   swaps_by tl calls two =
-      record { exchanged = shown_exchanged t st tl w shown; same_count = same_count t st tl; completes = λ a n h. completes t st tl a n (omega arith) }
+      record { exchanged = shown_exchanged t st tl w shown; same_count = same_count t st tl; completes = λ a n h. completes t st tl a n (omega arith); midway = shown_midway t st tl w shown }
 
   ends : TwoLow t → (a : ℕ) → ((i : ℕ) → a ≤ i → i < a + enough w → high_at t i ≡ true) → Ended (held_at t (a + enough w))
   ends tl a hi =
       let same : a + 2 * len_of x.u ≡ a + enough w = omega (arith, length_is) in
       subst (λ (i : ℕ). Ended (held_at t i)) same (ends_high t st tl a (λ i lo lt. hi i lo (omega (arith, same))))
 
+  ends_in_turns : TwoLow t → (every low o : ℕ) → low + 2 ≤ every → ((i : ℕ) → turns every low o i ≡ true → high_at t i ≡ true)
+      → Ended (held_at t (turns_calls every low w))
+  ends_in_turns tl every low o room on =
+      let same : every * (len_of x.u / ((every - low) / 2) + 2) ≡ turns_calls every low w = ap (λ (n : ℕ). every * (n / ((every - low) / 2) + 2)) length_is in
+      ends_turns t st tl every low o room on (turns_calls every low w) (omega (arith, same))
+
   ends_on_a_screen : (o : ℕ) → screen o 0 ≡ true → Follows t (screen o) → Ended (held_at t (screen_calls w))
-  ends_on_a_screen o h on =
-      let tl = courses t (screen o) (screens o h) on in
-      let s : ℕ = (544 - o % 504) % 504 in
-      ends_there t st tl o s (omega arith) on (screen_calls w) (omega (arith, length_is))
+  ends_on_a_screen o h on = ends_in_turns (courses t (screen o) (screens o h) on) _ _ o (omega arith) (λ i hi. on i ∙ hi)
 
 some_run : (k : Held) (d : Kind) → SwapStart k d → LateClear k → (w : ℕ → ℕ) → ShownAll k w
     → (t : ScreenTime) × (t.before ≡ k) × (t.start ≡ d) × Besides t × TwoLow t × LowStretch t 1 2 × Touches t 1 2 × Ended (held_at t (3 + enough w))
@@ -190,7 +193,7 @@ some_run k d st late w shown =
       along_besides k d late dip dip_course,
       tl,
       record { some = omega arith; low = λ i lo hi. on i ∙ dip_low i lo hi; before = λ i e. on i ∙ dip_first i e; behind = on 3 ∙ dip_high 3 (omega arith) },
-      (1, omega arith, omega arith, second_runs t st tl),
+      (1, omega arith, omega arith, second_runs t st tl (on 0 ∙ dip_course.first)),
       ends t w st shown tl 3 (λ i lo hi. on i ∙ dip_high i lo),
     )
 
@@ -347,6 +350,7 @@ swap_on_screen =
       accepted = λ t i st. accepted t st i;
       begins = λ t w st shown. begins t w st shown;
       ends = λ t w st tl shown. ends t w st shown tl;
+      ends_in_turns = λ t w st tl shown. ends_in_turns t w st shown tl;
       ends_on_a_screen = λ t w st shown. ends_on_a_screen t w st shown;
       screens = screens;
       courses = courses;

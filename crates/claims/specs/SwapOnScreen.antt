@@ -1,5 +1,5 @@
 -- L6: a swap through screen time. Quotations are L6's words where no other paper is named.
-use Rattle.std.specs.Prelude.{ℕ, zero, suc, ◌+◌, ◌*◌, ◌/◌, ◌%◌, ◌^◌, ◌<◌, ◌≤◌, Bool, true, false, cond, ◌≡◌, ◌≢◌, List, ◌++◌, take, set, get_or, count_by, eqb, leb}
+use Rattle.std.specs.Prelude.{ℕ, zero, suc, ◌+◌, ◌-◌, ◌*◌, ◌/◌, ◌%◌, ◌^◌, ◌<◌, ◌≤◌, Bool, true, false, cond, ◌≡◌, ◌≢◌, ◌⊎◌, List, ◌++◌, take, set, get_or, count_by, eqb, leb}
 use Rattle.transfer.specs.Bytes.{bit}
 use Rattle.transfer.specs.Constants.{command, execute, new_size}
 use Rattle.transfer.specs.Memory.{is_size}
@@ -8,7 +8,7 @@ use Rattle.image.specs.Layout.{pack_image}
 use Rattle.reu.specs.Exports.{flag}
 use Rattle.claims.specs.Constants.{flags_byte, transfer_byte}
 use Rattle.claims.specs.Calls.{Held, Memories, trigger_ff00, Kind, write, cycle, other, NumbersFit, does, accepts}
-use Rattle.claims.specs.SwapTwice.{byte, CanStart, ShownAll, block_length, Exchanged, SwapsAtOnce, Ended}
+use Rattle.claims.specs.SwapTwice.{byte, size_set, CanStart, ShownAll, bus_place, storage_place, block_length, Exchanged, SwapsAtOnce, Ended}
 use Rattle.claims.specs.RemainingBytes.{remaining_of, pair_in}
 use Rattle.claims.specs.Sessions.{begin, r16, run}
 
@@ -36,7 +36,7 @@ LateClear k = bit (byte k flags_byte) 7 ≡ false
 
 -- ---- "no other writer, and no call but one cycle call per master cycle"
 
--- what a cycle call is told
+-- what a cycle call is told: `ba_high`, the cycle number, `ba_low`, of which nothing is asked, and `ba_high_phi1`
 pub record Told : Type 0 where
   pub high : ℕ
   pub number : ℕ
@@ -71,7 +71,7 @@ Runs k = bit (byte k command) execute ≡ true
 abbrev pub high_at : ScreenTime → ℕ → Bool
 high_at t i = flag (t.told i).phi1
 
--- a "low stretch": n calls from call a on, and none more before or behind them
+-- a "low stretch": n calls from call a on, and none more before or behind them; so one without an end is none, and nothing is asked of it
 pub record LowStretch (t : ScreenTime) (a n : ℕ) : Type 0 where
   pub some : 0 < n
   pub low : (i : ℕ) → a ≤ i → i < a + n → high_at t i ≡ false
@@ -106,6 +106,18 @@ left k = cond (eqb (byte k transfer_byte) 0) 0 (remaining_of (pair_in k.image))
 abbrev pub occurrences : ℕ → Held → ℕ
 occurrences v k = count_by (λ x. eqb x v) k.bus + count_by (λ x. eqb x v) k.storage
 
+-- from a to b the first d bytes of the block have changed places with their partners, and no other byte differs, but that the storage may have
+-- the bus's next one already
+pub record Midway (d : ℕ) (w : ℕ → ℕ) (a b : Held) : Type 0 where
+  pub to_bus : (i : ℕ) → i < d → get_or b.bus (bus_place w i) 0 ≡ get_or a.storage (storage_place (size_set a) w i) 0
+  pub to_storage : (i : ℕ) → i < d → get_or b.storage (storage_place (size_set a) w i) 0 ≡ get_or a.bus (bus_place w i) 0
+  pub other_bus : (j : ℕ) → ((i : ℕ) → i < d → j ≢ bus_place w i) → get_or b.bus j 0 ≡ get_or a.bus j 0
+  pub other_storage : (j : ℕ) → ((i : ℕ) → i ≤ d → j ≢ storage_place (size_set a) w i) → get_or b.storage j 0 ≡ get_or a.storage j 0
+  pub next :
+      d < block_length w
+      → (get_or b.storage (storage_place (size_set a) w d) 0 ≡ get_or a.storage (storage_place (size_set a) w d) 0)
+      ⊎ (get_or b.storage (storage_place (size_set a) w d) 0 ≡ get_or a.bus (bus_place w d) 0)
+
 -- of the block that w shows, where so many high calls in a row complete a byte
 pub record Swaps (calls : ℕ) (t : ScreenTime) (w : ℕ → ℕ) : Type 0 where
   -- "when the swap ends, every byte of the block has changed places and no other byte differs": at its end, and at each call behind it
@@ -117,6 +129,8 @@ pub record Swaps (calls : ℕ) (t : ScreenTime) (w : ℕ → ℕ) : Type 0 where
   pub completes :
       (a n : ℕ) → calls ≤ n → Runs (held_at t a) → ((i : ℕ) → a ≤ i → i < a + n → high_at t i ≡ true)
       → left (held_at t (a + n)) < left (held_at t a)
+  -- and the bytes that are not left are those that have changed places
+  pub midway : (i : ℕ) → Midway (block_length w - left (held_at t i)) w t.before (held_at t i)
 
 -- ---- courses of BA
 
@@ -132,14 +146,21 @@ Follows t high = (i : ℕ) → high_at t i ≡ high i
 abbrev pub enough : (ℕ → ℕ) → ℕ
 enough w = 2 * block_length w
 
--- a screen's: low at 40 of every 504 calls, which are eight lines; o says where in these the first call comes
-abbrev pub screen : ℕ → ℕ → Bool
-screen o i = leb 40 ((o + i) % 504)
+-- low at the first `low` of `every` calls, over and over; o says where in these call 0 is
+abbrev pub turns : (every low o : ℕ) → ℕ → Bool
+turns every low o i = leb low ((o + i) % every)
 
--- calls in which any block ends on a screen: the 464 high ones of each 504 complete 232 bytes; 504 more for what is over, and 504 up to
--- the first high stretch that is whole
+-- calls in which any block ends where BA is high at least so: two of the high ones in each turn complete a byte; a turn more for what is over, and
+-- one up to the first that is whole
+abbrev pub turns_calls : (every low : ℕ) → (ℕ → ℕ) → ℕ
+turns_calls every low w = every * (block_length w / ((every - low) / 2) + 2)
+
+-- a screen's: low at 40 of every 504 calls, which are eight lines
+abbrev pub screen : ℕ → ℕ → Bool
+screen = turns 504 40
+
 abbrev pub screen_calls : (ℕ → ℕ) → ℕ
-screen_calls w = 504 * (block_length w / 232 + 2)
+screen_calls = turns_calls 504 40
 
 -- ---- "R16 shows why": a low call that stands alone
 
@@ -152,10 +173,11 @@ r16_time m s =
       told = λ i. record { high = cond (eqb i 0) 0 1; number = (10 + i) % 2 ^ 64; low = 0; phi1 = cond (eqb i 1) 0 1 };
     }
 
--- all is as L6 asks, but that the one low stretch is a single call. It comes behind a read, and `ba_high` has said so before: the read is to
--- be made once more. But BA is high again, and the parity equal: the storage's byte is put back, and the read phase is next. The read that
--- was to be made once more is made all the same, and puts the bus's byte into the storage, but not the storage's into the latch. So the
--- next read finds and latches the bus's byte, and the storage's is lost
+-- all is as L6 asks, but that the one low stretch is a single call. Call 0 reads: the storage takes the bus's byte, and the latch the storage's.
+-- `ba_high` is low at it already, so the fall at call 1 is late: the read is to be made once more, at the call after it. At call 2 BA is high
+-- again and the parity is the read's: the storage's byte is put back, and the read phase is next. But the read that is to be made once more is
+-- made at this call too, and puts the bus's byte into the storage and nothing into the latch. So call 3 finds the bus's byte in both, call 4
+-- writes it to the bus, and the storage's is lost. With a second low call the read would be made once more before BA rises, and nothing be lost
 pub record Alone (m s : List ℕ) (t : ScreenTime) : Type 0 where
   pub start : SwapStart t.before t.start
   pub besides : Besides t
@@ -176,7 +198,7 @@ pub record SwapOnScreen : Type 0 where
   -- the request's own form
   pub requested :
       (t : ScreenTime) (w : ℕ → ℕ) → SwapStart t.before t.start → Besides t → TwoLow t → ShownAll t.before w → Swaps 4 t w
-  -- of what it assumes the low stretches alone are needed, and two high calls in a row complete a byte
+  -- of what it assumes only the low stretches are needed, and two high calls in a row complete a byte
   pub stronger : (t : ScreenTime) (w : ℕ → ℕ) → SwapStart t.before t.start → TwoLow t → ShownAll t.before w → Swaps 2 t w
   -- whatever BA does none of the calls is refused, and the start leaves a command that runs and has all of the block left
   pub accepted :
@@ -184,25 +206,30 @@ pub record SwapOnScreen : Type 0 where
   pub begins :
       (t : ScreenTime) (w : ℕ → ℕ) → SwapStart t.before t.start → ShownAll t.before w
       → Runs (held_at t 0) × (left (held_at t 0) ≡ block_length w)
-  -- with BA high long enough, from any call on, it ends; and it ends on a screen
+  -- with BA high long enough, from any call on, it ends; and it ends where BA is high in turns, or more often, and on a screen
   pub ends :
       (t : ScreenTime) (w : ℕ → ℕ) → SwapStart t.before t.start → TwoLow t → ShownAll t.before w
       → (a : ℕ) → ((i : ℕ) → a ≤ i → i < a + enough w → high_at t i ≡ true) → Ended (held_at t (a + enough w))
+  pub ends_in_turns :
+      (t : ScreenTime) (w : ℕ → ℕ) → SwapStart t.before t.start → TwoLow t → ShownAll t.before w
+      → (every low o : ℕ) → low + 2 ≤ every → ((i : ℕ) → turns every low o i ≡ true → high_at t i ≡ true)
+      → Ended (held_at t (turns_calls every low w))
   pub ends_on_a_screen :
       (t : ScreenTime) (w : ℕ → ℕ) → SwapStart t.before t.start → ShownAll t.before w
       → (o : ℕ) → screen o 0 ≡ true → Follows t (screen o) → Ended (held_at t (screen_calls w))
-  -- a screen's course is of the kind; one of the kind has the low stretches that are asked for, and for each one there are calls
+  -- a screen's course is of the kind; in one of the kind every low stretch is two calls or more; and for each there are calls that L6 allows
   pub screens : (o : ℕ) → screen o 0 ≡ true → Course (screen o)
   pub courses : (t : ScreenTime) (high : ℕ → Bool) → Course high → Follows t high → TwoLow t
   pub some_calls :
       (k : Held) (d : Kind) → LateClear k → (high : ℕ → Bool) → Course high
       → (t : ScreenTime) × (t.before ≡ k) × (t.start ≡ d) × Besides t × Follows t high
-  -- with some of them each swap has its second and third calls low, and ends
+  -- and for each start there are some whose second and third calls are low, and with which it ends
   pub some_run :
       (k : Held) (d : Kind) → SwapStart k d → LateClear k → (w : ℕ → ℕ) → ShownAll k w
       → (t : ScreenTime) × (t.before ≡ k) × (t.start ≡ d) × Besides t × TwoLow t × LowStretch t 1 2 × Touches t 1 2
       × Ended (held_at t (3 + enough w))
-  -- there is what can start of each size, and from all that can start there are starts of both kinds
+  -- at each size there is a machine that can start, with any bus and storage; and from each that can there is a start by COMMAND and, late fall
+  -- clear, one by FF00
   pub some_start :
       (size : ℕ) → is_size size ≡ true → (m s : List ℕ) → Memories size m s
       → let k : Held = record { image = pack_image (connected (set_size new_reu size)); bus = m; storage = s } in CanStart k × LateClear k

@@ -60,8 +60,8 @@ pub fn autoload_stores()
     ensures { AutoloadStores }
 {}
 
-// A swap while BA falls and rises as a screen has it: the block has changed places at the end if no low call stands alone, from a start by COMMAND or by
-// FF00, at each size; with BA high long enough it ends. And R16, which has one.
+// A swap while BA falls and rises: at its end the block has changed places if no low call stands alone, from a start by COMMAND or by FF00, at each
+// size; and with BA high long enough, as on a screen, it ends. And R16, which has a low call alone and loses a byte.
 pub fn swap_on_screen()
     ensures { SwapOnScreen }
 {}
