@@ -17,9 +17,9 @@ use Rattle.controller.specs.TickDma.{Ticked}
 use Rattle.controller.specs.Cycle.{run_reu_cycle}
 use Rattle.claims.proofs.CycleLaw.{Quiet, Stands, swap_state, quiet_step_lem}
 use Rattle.claims.proofs.BaLaw.{After, Ends, Reads, reads, waits, delays, pairs, Writes, writes, finishes, again, stays, refreshes, gives_up, before_read, delayed_two, delayed_one, before_write, in_pair, refreshed}
-use Rattle.claims.proofs.Places.{next_bus, next_storage, Block, bus_at, exp_at, latched, Clean, Half, folds, folds_to, clean_latch, clean_read, half_back, half_again, again_latch, half_refresh, half_write, Partly, clean_part, half_part}
+use Rattle.claims.proofs.Places.{Block, bus_at, exp_at, latched, Clean, Half, folds, folds_to, clean_latch, clean_read, half_back, half_again, again_latch, half_refresh, half_write, Partly, clean_part, half_part}
 use Rattle.claims.proofs.States.{St}
-use Rattle.claims.proofs.Swap.{after_tick, command_ends}
+use Rattle.claims.proofs.Swap.{after_tick, command_ends, next_byte}
 
 -- what BA was at the call before the i-th, from the history flag at the start
 abbrev pub previous : Bool → (ℕ → Bool) → ℕ → Bool
@@ -161,15 +161,12 @@ module _ (block : Block) (w₀ : Bool) (B : ℕ → Bool) where
         → After (reg x.u 1) (B i) written x.s ReadC64 false false 0 ((bus_at block j + 1) % 65536) ((exp_at block j + 1) % 16777216) (block.n - j - 1) l z
         → Progress (suc j) (suc i) (after_tick z)
     has_written {l} {z} h hf more a =
-        let left : block.n - j - 1 ≡ block.n - suc j = omega arith in
         reading l
         (record {
           lt = omega (arith, h.lt);
           history = a.history;
           going = ap (λ (v : ℕ). v / 128 % 2) a.command ∙ h.going;
-          stands =
-              subst (λ (q : ℕ). Stands z.0.reu ReadC64 false false 0 (bus_at block (suc j)) (exp_at block (suc j)) q l) left
-              (subst₂ (λ (q q' : ℕ). Stands z.0.reu ReadC64 false false 0 q q' (block.n - j - 1) l) (next_bus block.c j) (next_storage block.e j) a.stands);
+          stands = next_byte block j a.stands;
         })
         (subst₂ (Clean block (suc j)) (sym a.bus) (sym a.storage) (half_write block j h.lt x.m x.s hf))
 

@@ -15,6 +15,7 @@ use Rattle.controller.specs.declared.reu.Reu.{Reu}
 use Rattle.std.specs.Prelude.{None}
 use Rattle.transfer.specs.declared.timing.ReuBusAction.{ReuBusAction}
 use Rattle.transfer.specs.declared.timing.ReuBusAction.TheVariants.{Cpu, Transfer}
+use Rattle.transfer.specs.declared.dma.SwapPhase.TheVariants.{ReadC64}
 use Rattle.transfer.specs.Bytes.{word, bit_of, long}
 use Rattle.transfer.proofs.Bits.{bit_one}
 use Rattle.controller.specs.Reu.{reg, with_dma}
@@ -31,7 +32,7 @@ use Rattle.claims.specs.Calls.{Held, Kind, bus_action, write, cycle, other, Numb
 use Rattle.claims.specs.SwapTwice.{Step, cycles, reads, writes, register, writes_to, High, OfBlock, SwapsAtOnce, swaps, Ended, OnceEnded}
 use Rattle.image.proofs.Sound.{Sound}
 use Rattle.image.proofs.SoundCalls.{length_range}
-use Rattle.claims.proofs.CycleLaw.{Reading, Writing, Quiet, Kept, ReadStep, WriteStep, LastStep, IdleStep, read_step, write_step, last_step, idle_step, quiet_step_lem}
+use Rattle.claims.proofs.CycleLaw.{Stands, Reading, Writing, Quiet, Kept, ReadStep, WriteStep, LastStep, IdleStep, read_step, write_step, last_step, idle_step, quiet_step_lem}
 use Rattle.claims.proofs.RegisterLaw.{Begun, start_law, Rewritten, rewritten_none, rewritten_keep, Value, rewrite_law, read_law, read_stays_quiet}
 use Rattle.claims.proofs.Exchange.{exch_zero}
 use Rattle.claims.proofs.Places.{next_bus, next_storage, Block, bus_at, storage_at, exp_at, latched, Clean, Half, folds, folds_to, clean_latch, clean_read, half_write}
@@ -75,6 +76,14 @@ kept_of u w e k =
 abbrev pub Allowed : (ℕ → ℕ) → ℕ → ℕ → Type 0
 Allowed W a v = OfBlock (register a) × Value W (register a) v
 
+-- the counters of a byte that is done are the next one's
+pub next_byte : (b : Block) (j : ℕ) {u : Reu} {l : ℕ}
+    → Stands u ReadC64 false false 0 ((bus_at b j + 1) % 65536) ((exp_at b j + 1) % 16777216) (b.n - j - 1) l
+    → Stands u ReadC64 false false 0 (bus_at b (suc j)) (exp_at b (suc j)) (b.n - suc j) l
+next_byte b j {u} {l} h =
+    let left : b.n - j - 1 ≡ b.n - suc j = omega arith in
+    subst₃ (λ (c e r : ℕ). Stands u ReadC64 false false 0 c e r l) (next_bus b.c j) (next_storage b.e j) left h
+
 -- of a block with any number of address lines from 16 on: one argument for every size
 module _ (W : ℕ → ℕ) (b : Block) where
   pub data Progress (k : ℕ) (g : ℕ → ℕ) (x : St) : Type 0 where
@@ -110,11 +119,7 @@ module _ (W : ℕ → ℕ) (b : Block) where
       → (t : Ticked) (a : ReuBusAction) → WriteStep x.u (bus_at b j) (exp_at b j) (b.n - j) (latched b j) x.m x.s t a
       → Progress (1 + k) g (after_tick t)
   cycle_writes k g x j lt ek zero' half one free t a st =
-      let left : b.n - j - 1 ≡ b.n - suc j = omega arith in
-      reading (suc j) lt (omega arith) zero'
-      (subst (λ (q : ℕ). Reading t.0.reu (bus_at b (suc j)) (exp_at b (suc j)) q) left
-      (subst (λ (q : ℕ). Reading t.0.reu (bus_at b (suc j)) q (b.n - j - 1)) (next_storage b.e j)
-      (subst (λ (q : ℕ). Reading t.0.reu q ((exp_at b j + 1) % 16777216) (b.n - j - 1)) (next_bus b.c j) st.phase)))
+      reading (suc j) lt (omega arith) zero' (record { latch = st.phase.latch; stands = next_byte b j st.phase.stands })
       (subst₂ (Clean b (suc j)) (sym st.bus) (sym st.storage)
       (half_write b j (omega arith) x.m x.s half))
       (ap (λ (q : ℕ). q / 128 % 2) st.command ∙ one) (ap (λ (q : ℕ). q / 64) st.control ∙ free)
@@ -217,7 +222,7 @@ module _ (W : ℕ → ℕ) (b : Block) where
       (sym (flag_high h hi.0)) (sym (flag_high p hi.1)) (cycled k g x (flag l) i sound same pr)))
 
   -- before it is over each cycle is granted
-  pub granted_until : (k : ℕ) (g : ℕ → ℕ) (x : St) (i : ℕ) → Sound x.u → lines x.u.size ≡ b.L → Progress k g x → k < 2 * b.n
+  granted_until : (k : ℕ) (g : ℕ → ℕ) (x : St) (i : ℕ) → Sound x.u → lines x.u.size ≡ b.L → Progress k g x → k < 2 * b.n
       → (core_bus_action x.u x.s true true i).0.action ≡ Transfer
   granted_until k g x i sound same pr h = until k g _ _ h (cycled k g x false i sound same pr)
 
