@@ -10,6 +10,9 @@ use crate::rng::{Rng, noise};
 use crate::sides::{BUS, Image, Machine, register, set_number};
 use reu::*;
 
+/// Numbers that a flag has when it is set.
+pub const SET: [u32; 5] = [1, 1, 2, 0x100, u32::MAX];
+
 /// One machine on its way through a list, with the bytes that both runs begin with.
 struct Walk<'a> {
     machine: &'a mut dyn Machine,
@@ -20,10 +23,11 @@ struct Walk<'a> {
 }
 
 /// Where a swap's block lies, as the registers show it at the start.
-struct Block {
+#[derive(Clone, Copy)]
+pub struct Block {
     c64: usize,
     expansion: usize,
-    length: usize,
+    pub length: usize,
 }
 
 fn check(holds: bool, what: &str) -> Result<(), String> {
@@ -50,7 +54,7 @@ fn start_image(generator: &mut Generator, rng: &mut Rng, length: [u8; 2]) -> Ima
 impl Walk<'_> {
     /// A cycle with every BA input high, by any number that says so.
     fn cycle(&mut self) -> Call {
-        let mut high = || self.rng.pick(&[1, 1, 2, 0x100, u32::MAX]);
+        let mut high = || self.rng.pick(&SET);
         let (ba_high, ba_high_phi1) = (high(), high());
         Call::RunReuCycle { ba_high, cycle: self.rng.word(), ba_low: 0, ba_high_phi1 }
     }
@@ -156,7 +160,8 @@ impl Walk<'_> {
 }
 
 impl Block {
-    fn shown(shown: &[u8]) -> Self {
+    /// By registers 2 to 8.
+    pub fn shown(shown: &[u8]) -> Self {
         let byte = |register: usize| usize::from(shown[register - 2]);
         let length = byte(7) + 256 * byte(8);
         Self {
@@ -166,10 +171,16 @@ impl Block {
         }
     }
 
-    fn exchanged(&self, bus: &[u8], storage: &[u8]) -> (Vec<u8>, Vec<u8>) {
+    /// Where a byte of the block is on the bus, and its partner in a storage of this size.
+    pub fn places(&self, at: usize, size: usize) -> (usize, usize) {
+        ((self.c64 + at) % BUS, (self.expansion + at) % size)
+    }
+
+    /// Both memories after the swap.
+    pub fn exchanged(&self, bus: &[u8], storage: &[u8]) -> (Vec<u8>, Vec<u8>) {
         let (mut bus, mut storage) = (bus.to_vec(), storage.to_vec());
         for at in 0..self.length {
-            let (addr, offset) = ((self.c64 + at) % BUS, (self.expansion + at) % storage.len());
+            let (addr, offset) = self.places(at, storage.len());
             std::mem::swap(&mut bus[addr], &mut storage[offset]);
         }
         (bus, storage)

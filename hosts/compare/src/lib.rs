@@ -5,6 +5,7 @@ pub mod calls;
 pub mod compare;
 #[cfg(original)]
 pub mod copies;
+pub mod courses;
 pub mod demand3;
 pub mod generate;
 pub mod granted;
@@ -18,6 +19,7 @@ pub mod reference;
 pub mod refusals;
 pub mod remaining;
 pub mod rng;
+pub mod screen;
 pub mod sessions;
 pub mod shrink;
 pub mod sides;

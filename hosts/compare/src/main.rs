@@ -1,9 +1,10 @@
 //! Runs the library and the original side by side and compares every call. See the README beside this folder.
 
-use compare::compare::{caught_by, list_seed};
+use compare::compare::{FULL_RUN, caught_by, list_seed};
 use compare::port::Library;
 use compare::refusals::{Refusals, Refuser};
 use compare::rng::drawn_seed;
+use compare::screen::{self, Sides};
 use compare::sides::{Held, Machine, Port};
 use compare::sizes::SIZES;
 use compare::{demand3, record, sessions, sizes};
@@ -74,6 +75,19 @@ fn by_seed(options: &Options, parts: impl FnOnce(u64, u64) -> Result<(), String>
     match caught_by(|| parts(seed, calls)) {
         None => Ok(()),
         Some(what) => Err(format!("{what}\nthe run again, in the repository's folder:\n{}", command(&words))),
+    }
+}
+
+/// Swaps through screen time; in a run that is a full one every kind of event must have been met. BA that is low for one call
+/// alone breaks them, on both sides alike.
+fn swaps(mut sides: Sides, seed: u64, calls: u64) -> Result<(), String> {
+    let met = screen::run(&mut sides, seed, calls >= FULL_RUN)?;
+    println!("swaps: every byte has changed places: {}", met.told());
+    let lone = screen::lone(&mut sides, seed)?;
+    println!("swaps: in {lone} more, R16 among them, BA low for one call alone has lost a byte");
+    match met.missing() {
+        missing if calls < FULL_RUN || missing.is_empty() => Ok(()),
+        missing => Err(format!("swaps: so long a run must meet each; missing: {}", missing.join(", "))),
     }
 }
 
@@ -184,6 +198,9 @@ mod with_original {
         by_seed(options, |seed, calls| {
             random(port, seed, calls, options.bug)?;
             pairs_and_blocks(port, seed)?;
+            let (mut library, mut original) = (Held::new(port), Original::default());
+            let mut pair = Pair { tried: &mut library, right: &mut original };
+            swaps(Sides::Two(&mut pair), seed, calls)?;
             without_original(port, seed)?;
             alone("original", &mut Original::default(), None, seed)?;
             record::replay(&mut Original::default(), RECORDED).map(drop)
@@ -217,7 +234,10 @@ fn run(options: &Options) -> Result<(), String> {
     if asked || std::env::var("CI").is_ok_and(|ci| ci == "true") {
         return Err(format!("compare: {MISSING}"));
     }
-    by_seed(options, |seed, _| without_original(Library, seed))?;
+    by_seed(options, |seed, calls| {
+        swaps(Sides::One(&mut Held::new(Library)), seed, calls)?;
+        without_original(Library, seed)
+    })?;
     println!("compare: {MISSING}: the recorded list was replayed instead");
     Ok(())
 }
