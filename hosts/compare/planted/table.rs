@@ -406,6 +406,54 @@ pub const PLANTED: &[Planted] = &[
         "reu.tick_dma(self, cycle, vic);",
         "reu.tick_dma(self, cycle, vic); reu.tick_dma(self, cycle, vic);"),
 
+    // Swaps through screen time (request L6): a byte that falls and rises would lose, pass over or put elsewhere.
+    edit("a refresh latches the storage's byte", "reu",
+        "vic));\n\t\t\tdma.read_clock_odd = cycle & 1 != 0;",
+        "vic));\n\t\t\tdma.latch = storage.read(dma.reu_addr);\n\t\t\tdma.read_clock_odd = cycle & 1 != 0;"),
+    edit("a refresh stores the bus's next byte", "reu",
+        "storage.write(dma.reu_addr, memory.reu_read(dma.c64_addr, cycle, vic));\n\t\t\tdma.read",
+        "storage.write(dma.reu_addr, memory.reu_read(dma.c64_addr.wrapping_add(1), cycle, vic));\n\t\t\tdma.read"),
+    edit("after a refresh the byte is read again", "reu",
+        "vic));\n\t\t\tdma.read_clock_odd = cycle & 1 != 0;",
+        "vic));\n\t\t\tdma.swap_phase = SwapPhase::ReadC64;\n\t\t\tdma.read_clock_odd = cycle & 1 != 0;"),
+    edit("a refresh completes the byte", "reu",
+        "vic));\n\t\t\tdma.read_clock_odd = cycle & 1 != 0;",
+        "vic));\n\t\t\tif dma.remaining > 1 { dma.complete_byte(); dma.swap_phase = SwapPhase::ReadC64; }
+         dma.read_clock_odd = cycle & 1 != 0;"),
+    edit("a start leaves the refresh", "reu",
+        "self.swap_refresh = false;\n\t\tself.swap_release_pending = false;\n\t\tself.terminal_swap_write = false;",
+        "self.swap_release_pending = false;\n\t\tself.terminal_swap_write = false;"),
+    edit("a rise restores the storage byte one place on", "reu",
+        "storage.write(dma.reu_addr, dma.latch); }\n\t\t\t\tdma.swap_phase = SwapPhase::ReadC64;\n\t\t\t}\n\t\t}",
+        "storage.write(dma.reu_addr + 1, dma.latch); }\n\t\t\t\tdma.swap_phase = SwapPhase::ReadC64;\n\t\t\t}\n\t\t}"),
+    edit("a rise does not restore the last byte of a block", "reu",
+        "storage.write(dma.reu_addr, dma.latch); }\n\t\t\t\tdma.swap_phase = SwapPhase::ReadC64;\n\t\t\t}\n\t\t}",
+        "if dma.remaining != 1 { storage.write(dma.reu_addr, dma.latch); } }
+         dma.swap_phase = SwapPhase::ReadC64;\n\t\t\t}\n\t\t}"),
+    edit("a fall before a write passes over the byte", "reu",
+        "dma.latch); }\n\t\t\t\tdma.swap_phase = SwapPhase::ReadC64;\n\t\t\t}\n\t\t\tReu",
+        "dma.latch); }\n\t\t\t\tif dma.remaining > 1 { dma.complete_byte(); }
+         dma.swap_phase = SwapPhase::ReadC64;\n\t\t\t}\n\t\t\tReu"),
+    edit("the terminal pair has no read", "reu",
+        "self.terminal_swap_write = true;",
+        "self.terminal_swap_write = true;
+         if let Some(dma) = self.dma.as_mut() { dma.swap_phase = SwapPhase::WriteC64; }"),
+    edit("the read of the terminal pair stores nothing", "reu",
+        "storage.write(dma.reu_addr, c64_value);",
+        "if self.terminal_swap_write == false { storage.write(dma.reu_addr, c64_value); }"),
+    edit("a rise takes a read that was delayed for done", "reu",
+        "self.swap_read_delay -= 1;",
+        "self.swap_read_delay -= 1;
+         if rising && self.swap_refresh == false {
+             for dma in self.dma.iter_mut().filter(|dma| dma.transfer_type == TransferType::Swap) { dma.swap_phase = SwapPhase::WriteC64; }
+         }"),
+    edit("the delayed read of a byte stores the byte before it", "reu",
+        "self.swap_read_delay -= 1;",
+        "self.swap_read_delay -= 1;
+         if let (0, false, Some(dma), Some(storage)) = (self.swap_read_delay, self.swap_refresh, self.dma, self.storage.as_mut()) {
+             storage.write(dma.reu_addr, dma.latch);
+         }"),
+
     // The count of granted cycles: what adds to it.
     edit("the count wraps at its top", "run_reu_cycle", "saturating_add(1)", "wrapping_add(1)"),
     edit("the count is held one below its top", "run_reu_cycle",

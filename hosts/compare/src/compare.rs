@@ -27,7 +27,8 @@ pub struct Pair<'a> {
     pub right: &'a mut dyn Machine,
 }
 
-fn first_difference(tried: &[u8], right: &[u8]) -> Option<usize> {
+/// The first place at which two memories or images of one length differ.
+pub fn first_difference(tried: &[u8], right: &[u8]) -> Option<usize> {
     if tried == right { None } else { tried.iter().zip(right).position(|(one, other)| one != other) }
 }
 

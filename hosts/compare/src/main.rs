@@ -78,17 +78,14 @@ fn by_seed(options: &Options, parts: impl FnOnce(u64, u64) -> Result<(), String>
     }
 }
 
-/// Swaps through screen time; in a run that is a full one every kind of event must have been met. BA that is low for one call
-/// alone breaks them, on both sides alike.
+/// Swaps through screen time, and swaps in which BA is low for one call alone.
 fn swaps(mut sides: Sides, seed: u64, calls: u64) -> Result<(), String> {
-    let met = screen::run(&mut sides, seed, calls >= FULL_RUN)?;
-    println!("swaps: every byte has changed places: {}", met.told());
+    let full = calls >= FULL_RUN;
+    let met = screen::run(&mut sides, seed, full)?;
+    println!("swaps: every byte of each has changed places and no other: {}", met.told());
     let lone = screen::lone(&mut sides, seed)?;
-    println!("swaps: in {lone} more, R16 among them, BA low for one call alone has lost a byte");
-    match met.missing() {
-        missing if calls < FULL_RUN || missing.is_empty() => Ok(()),
-        missing => Err(format!("swaps: so long a run must meet each; missing: {}", missing.join(", "))),
-    }
+    println!("swaps: in {lone} more, R16 among them, BA was low for one call alone, and one byte is lost");
+    met.has_met_all(full)
 }
 
 /// Sessions, sizes and demand 3 on one machine, with refused calls among the lists if there is something to refuse them.

@@ -13,9 +13,10 @@ use crate::copies::{COPIES, CallOn};
 use crate::reference::Original;
 use crate::refusals::Refusals;
 use crate::remaining::EARLIER;
+use crate::screen::Sides;
 use crate::sides::{Held, IMAGE, Image, Lent, Port, REFUSAL, register};
 use crate::sizes::SIZES;
-use crate::{demand3, sessions, sizes};
+use crate::{demand3, screen, sessions, sizes};
 use reu::*;
 use std::panic::{AssertUnwindSafe, catch_unwind};
 use table::PLANTED;
@@ -174,6 +175,11 @@ fn sizes_alone(standin: CallOn) -> Result<(), String> {
     sizes::run(&mut Held::new(Standin(standin)), crate::SEED).map(drop)
 }
 
+/// A brief part of the swaps through screen time.
+fn swaps_alone(standin: CallOn) -> Result<(), String> {
+    screen::run(&mut Sides::One(&mut Held::new(Standin(standin))), crate::SEED, false).map(drop)
+}
+
 fn broken_sessions(standin: CallOn) -> Vec<usize> {
     let mut machine = Held::new(Standin(standin));
     let mut plays = |number| catch_unwind(AssertUnwindSafe(|| sessions::plays(&mut machine, number)));
@@ -208,7 +214,8 @@ fn how_caught(standin: CallOn, breaks: Breaks) -> Option<String> {
     let names: Vec<String> = sessions.iter().map(|number| format!("R{number}")).collect();
     let broken = (!names.is_empty()).then(|| format!("breaks {}", names.join(" ")));
     let sizes = caught_by(|| sizes_alone(standin)).map(|what| brief(&what).into());
-    let ways: Vec<String> = [caught_in_runs(standin), broken, sizes, demand3].into_iter().flatten().collect();
+    let swaps = caught_by(|| swaps_alone(standin));
+    let ways: Vec<String> = [caught_in_runs(standin), broken, sizes, demand3, swaps].into_iter().flatten().collect();
     (holds && !ways.is_empty()).then(|| ways.join("; "))
 }
 

@@ -7,7 +7,7 @@
 //! `ba_high_phi1` is one call later. Fewer assumptions do, so some runs leave these out.
 
 use crate::calls::{Call, Step};
-use crate::compare::{Pair, list_seed};
+use crate::compare::{Pair, first_difference, list_seed};
 use crate::courses::{Course, KINDS, Kind, SCREEN, then_high};
 use crate::demand3::{Block, SET};
 use crate::generate::Generator;
@@ -133,10 +133,12 @@ impl Rule {
         if let Some(value) = (0..256).find(|value| before[*value] != after[*value]) {
             return Err(format!("byte 0x{value:02x} is there {} times, not {}", after[value], before[value]));
         }
-        let wrong = |bytes: &[u8], right: &[u8]| bytes.iter().zip(right).position(|(byte, right)| byte != right);
-        let (on_bus, in_storage) = (wrong(bus, &self.bus), wrong(storage, &self.storage));
-        check(on_bus.is_none(), || format!("bus byte {on_bus:?} is not the one that belongs there"))?;
-        check(in_storage.is_none(), || format!("storage byte {in_storage:?} is not the one that belongs there"))
+        for (what, bytes, right) in [("bus", bus, &self.bus), ("storage", storage, &self.storage)] {
+            if let Some(at) = first_difference(bytes, right) {
+                return Err(format!("{what} byte {at} is 0x{:02x}, not 0x{:02x}", bytes[at], right[at]));
+            }
+        }
+        Ok(())
     }
 }
 
@@ -230,10 +232,18 @@ impl Met {
     pub fn missing(&self) -> Vec<&'static str> {
         MET.into_iter().zip(self.0).filter(|(_, count)| *count == 0).map(|(what, _)| what).collect()
     }
+
+    /// An error if the part was a full one and has not met all.
+    pub fn has_met_all(&self, full: bool) -> Result<(), String> {
+        let missing = self.missing();
+        check(!full || missing.is_empty(), || {
+            format!("swaps: a full run must meet each; missing: {}", missing.join(", "))
+        })
+    }
 }
 
 /// What a run is about; the rest is drawn.
-#[derive(Clone, Copy, Debug)]
+#[derive(Clone, Copy)]
 struct Plan {
     size: usize,
     length: u32,
@@ -252,6 +262,11 @@ impl Plan {
         let any = 1 + rng.below(600) as u32;
         let length = rng.pick(&[1, 1, 2, 2, 3, 4, 5, 8, 17, 40, any]);
         Self { free: rng.one_in(3), ..Self::new(size, length, Kind::any(rng)) }
+    }
+
+    fn told(self) -> String {
+        let Self { size, length, kind, free } = self;
+        format!("{length} bytes at {size} under {kind:?}{}", if free { ", the other inputs free" } else { "" })
     }
 
     /// All at one size: each length with each kind of course, what is drawn, and the full lengths.
@@ -428,7 +443,7 @@ pub fn run(sides: &mut Sides, seed: u64, full: bool) -> Result<Met, String> {
             sides.begin(size, rng.word())?;
         }
         let mut run = Run { sides, met: &mut met, rng: Rng::new(list_seed(seed, at as u64)), plan };
-        run.swap().map_err(|what| format!("swaps: from seed {seed}, run {at}, {plan:?}: {what}"))?;
+        run.swap().map_err(|what| format!("swaps: from seed {seed}, run {at}, {}: {what}", plan.told()))?;
     }
     Ok(met)
 }
@@ -444,7 +459,8 @@ pub fn lone(sides: &mut Sides, seed: u64) -> Result<u64, String> {
         let length = if at == 0 { 1 } else { rng.pick(&[1, 2, 3, 40, 257]) };
         let plan = Plan::new(size, length, Kind::High);
         let mut run = Run { sides, met: &mut Met::default(), rng: Rng::new(list_seed(seed, at)), plan };
-        run.loses_a_byte().map_err(|what| format!("swaps: from seed {seed}, call {at} that is low alone: {what}"))?;
+        let told = |what| format!("swaps: from seed {seed}, run {at} with a call low alone, {}: {what}", plan.told());
+        run.loses_a_byte().map_err(told)?;
     }
     Ok(LONE)
 }

@@ -2,13 +2,17 @@
 
 use compare::calls::{Call, Step, list_from, list_text};
 use compare::compare::{FULL_RUN, Pair, Run};
+use compare::courses::{KINDS, Kind, then_high};
+use compare::demand3::Block;
 use compare::generate::Generator;
 use compare::granted::AtTop;
 use compare::passed::AtTops;
 use compare::port::Library;
 use compare::record::replay;
 use compare::refusals::{Refusals, Refuser};
-use compare::sides::{Held, Lent, Port, STORAGE};
+use compare::rng::{Rng, noise};
+use compare::screen::{self, Met, Pace, Rule, Sides};
+use compare::sides::{BUS, Held, Lent, Port, STORAGE};
 use compare::sizes::{AtSizes, BLANK, size_of};
 use compare::{SEED, demand3, remaining};
 use reu::{IMAGE_LATCH, IMAGE_REMAINING, IMAGE_TYPE};
@@ -31,8 +35,8 @@ impl Port for Kept<'_> {
     }
 }
 
-/// What each part that draws from a seed calls: the random run, the refusals, and a run of demand 3.
-fn called_from(seed: u64) -> [Vec<(Call, Vec<u8>)>; 3] {
+/// What each part that draws from a seed calls: the random run, the refusals, a run of demand 3, and the swaps.
+fn called_from(seed: u64) -> [Vec<(Call, Vec<u8>)>; 4] {
     let calls = RefCell::new(Vec::new());
     let (mut tried, mut right) = (Held::new(Kept(&calls)), Held::new(Library));
     let mut pair = Pair { tried: &mut tried, right: &mut right };
@@ -42,7 +46,9 @@ fn called_from(seed: u64) -> [Vec<(Call, Vec<u8>)>; 3] {
     assert!((0..100).all(|_| refusals.refuse(&BLANK).is_ok()));
     let refused = calls.take();
     assert!(demand3::run(&mut tried, None, STORAGE, seed).is_ok());
-    [run, refused, calls.take()]
+    let demand3 = calls.take();
+    assert!(screen::run(&mut Sides::One(&mut tried), seed, false).is_ok());
+    [run, refused, demand3, calls.take()]
 }
 
 #[test]
@@ -137,6 +143,142 @@ fn each_pair_of_remaining_is_tried_and_each_block_run_to_its_end() {
     assert_eq!([0, 1, 2, 3].map(|kind| lent.iter().filter(|(of, _)| *of == kind).count()), [16_384; 4]);
     let (mut tried, mut right) = (Held::new(Library), Held::new(Library));
     assert_eq!(remaining::blocks(&mut Pair { tried: &mut tried, right: &mut right }), Ok(20));
+}
+
+/// The lengths of the stretches of a course, the first of them high; the last one is cut and left out.
+fn stretches(course: impl Iterator<Item = bool>) -> Vec<usize> {
+    let mut lengths = vec![0];
+    let mut level = true;
+    for high in course {
+        if high != level {
+            lengths.push(0);
+            level = high;
+        }
+        *lengths.last_mut().unwrap() += 1;
+    }
+    lengths.pop();
+    lengths
+}
+
+#[test]
+fn each_course_of_ba_begins_high_and_has_no_call_low_alone() {
+    for (kind, seed) in KINDS.into_iter().flat_map(|kind| (0..20).map(move |seed| (kind, seed))) {
+        let course = || kind.course(&mut Rng::new(seed));
+        let found = stretches(course().take(40_000));
+        let low = found.iter().skip(1).step_by(2);
+        assert!(found.is_empty() == matches!(kind, Kind::High), "{kind:?} {found:?}");
+        assert!(found.iter().all(|length| *length > 0) && low.clone().all(|length| *length >= 2), "{kind:?} {seed}");
+        // Nor where it ends in a high stretch that stays.
+        for calls in 0..100 {
+            let ended: Vec<bool> = then_high(course(), calls).take(calls + 1_000).collect();
+            let found = stretches(ended.iter().copied());
+            assert!(found.iter().skip(1).step_by(2).all(|length| *length >= 2), "{kind:?} {seed} {calls}");
+            assert!(
+                ended[..calls] == course().take(calls).collect::<Vec<bool>>()
+                    && ended[calls + 100..].iter().all(|high| *high)
+            );
+        }
+    }
+}
+
+#[test]
+fn a_screen_is_low_for_40_calls_of_504_and_a_vic_for_43_at_each_badline() {
+    for from in [0, 1, 300, 463] {
+        let screen = stretches(Kind::Screen(from).course(&mut Rng::new(SEED)).take(50_000));
+        assert!(screen[0] == 464 - from && screen[1..].chunks_exact(2).all(|pair| pair == [40, 464]), "{from}");
+    }
+    for seed in 0..20 {
+        let frame = stretches(Kind::Vic.course(&mut Rng::new(seed)).take(2 * 312 * 63));
+        let low: Vec<usize> = frame.into_iter().skip(1).step_by(2).collect();
+        assert!(low.iter().filter(|length| **length >= 43).count() >= 25, "{low:?}");
+        assert!(low.iter().all(|length| *length >= 5), "{low:?}");
+    }
+}
+
+/// Block and memories of the tests of the rule, and what both are after the swap: it passes the ends of both.
+fn swapped() -> (Rule, Vec<u8>, Vec<u8>) {
+    let (mut bus, mut storage) = (vec![0; BUS], vec![0; 131_072]);
+    noise(&mut bus, SEED);
+    noise(&mut storage, !SEED);
+    // 5 bytes from $FFFE and $01FFFD.
+    let rule = Rule::new(&Block::shown(&[0xFE, 0xFF, 0xFD, 0xFF, 0xF9, 5, 0]), &bus, &storage);
+    for (addr, offset) in [(65_534, 131_069), (65_535, 131_070), (0, 131_071), (1, 0), (2, 1)] {
+        std::mem::swap(&mut bus[addr], &mut storage[offset]);
+    }
+    (rule, bus, storage)
+}
+
+#[test]
+fn the_rule_of_swaps_sees_each_byte_that_differs() {
+    let (rule, bus, storage) = swapped();
+    assert_eq!(rule.ended(&bus, &storage), Ok(()));
+    for at in [0, 2, 3, 65_533, 65_534] {
+        let mut wrong = bus.clone();
+        wrong[at] ^= 1;
+        assert!(rule.ended(&wrong, &storage).unwrap_err().contains(" times, not "), "bus {at}");
+    }
+    for at in [0, 2, 131_068, 131_071] {
+        let mut wrong = storage.clone();
+        wrong[at] ^= 0x80;
+        assert!(rule.ended(&bus, &wrong).unwrap_err().contains(" times, not "), "storage {at}");
+    }
+}
+
+/// Bytes that are all there, in other places: of the block, beside it, and one of each.
+#[test]
+fn the_rule_of_swaps_sees_bytes_that_stand_elsewhere() {
+    let (rule, bus, storage) = swapped();
+    for (one, other) in [(65_534, 65_535), (100, 200), (2, 3)] {
+        let mut wrong = bus.clone();
+        wrong.swap(one, other);
+        assert!(rule.ended(&wrong, &storage).unwrap_err().starts_with("bus byte "), "bus {one} {other}");
+        let mut wrong = storage.clone();
+        wrong.swap(one % 5, other);
+        assert!(rule.ended(&bus, &wrong).unwrap_err().starts_with("storage byte "), "storage {one} {other}");
+    }
+    let (mut back, mut there) = (bus, storage);
+    std::mem::swap(&mut back[65_535], &mut there[131_070]);
+    assert!(rule.ended(&back, &there).unwrap_err().starts_with("bus byte "));
+}
+
+/// What a swap of two bytes may do at each call: whether BA is high, a byte is completed, and the command goes on.
+#[test]
+fn the_rule_of_swaps_sees_one_that_does_not_come_on() {
+    let paced = |calls: &[(bool, bool, bool)]| {
+        let mut pace = Pace::default();
+        calls.iter().try_for_each(|(high, completed, goes_on)| pace.call(*high, *completed, *goes_on, 2))
+    };
+    let (idle, low, byte, end) = ((true, false, true), (false, false, true), (true, true, true), (true, true, false));
+    for right in [vec![idle, byte, idle, end], vec![idle, low, idle, low, low, idle, byte, idle, low, idle, end]] {
+        assert_eq!(paced(&right), Ok(()));
+    }
+    let stands = "two high calls in a row complete no byte";
+    for wrong in [vec![idle, idle], vec![idle, low, idle, idle], vec![byte, idle, idle]] {
+        assert_eq!(paced(&wrong).unwrap_err(), stands);
+    }
+    assert_eq!(paced(&[idle, byte, idle, byte]).unwrap_err(), "4 high calls in a row do not end it");
+}
+
+#[test]
+fn a_full_part_of_swaps_must_have_met_all_that_is_counted() {
+    assert!(Met([1; 12]).has_met_all(true).is_ok() && Met([0; 12]).has_met_all(false).is_ok());
+    for at in 0..12 {
+        let mut counts = [7; 12];
+        counts[at] = 0;
+        assert!(Met(counts).has_met_all(true).is_err(), "{at}");
+    }
+}
+
+/// Fewer runs than a full part's have already met it all. A call that is low alone loses a byte, in a run of every size.
+#[test]
+fn swaps_come_through_screen_time_and_lose_a_byte_to_a_call_that_is_low_alone() {
+    let (mut tried, mut right) = (Held::new(Library), Held::new(Library));
+    let mut pair = Pair { tried: &mut tried, right: &mut right };
+    let mut sides = Sides::Two(&mut pair);
+    let met = [1, 2, 3].map(|seed| screen::run(&mut sides, seed, false).unwrap());
+    let all = Met(std::array::from_fn(|at| met.iter().map(|met| met.0[at]).sum()));
+    assert_eq!(all.missing(), Vec::<&str>::new());
+    assert_eq!(screen::lone(&mut sides, SEED), Ok(60));
 }
 
 /// The first line that the program prints, which is then ended.
@@ -309,6 +451,44 @@ mod with_original {
             let found = caught_by(|| sizes::run(&mut Held::new(Standin(standin)), SEED).map(drop)).expect(name);
             assert!(found.starts_with("sizes: "), "{name}: {found}");
         }
+    }
+
+    /// Bugs in what a fall and a rise do: the rule alone catches each, on runs that are brief and have no original beside them.
+    #[test]
+    fn the_rule_of_swaps_catches_what_loses_a_byte_or_puts_it_elsewhere() {
+        let names = [
+            "a refresh latches the storage's byte",
+            "a refresh stores the bus's next byte",
+            "after a refresh the byte is read again",
+            "a refresh completes the byte",
+            "a start leaves the refresh",
+            "a rise does not restore the storage byte",
+            "a rise restores the storage byte one place on",
+            "a rise does not restore the last byte of a block",
+            "a fall does not restore the storage byte",
+            "a fall before a write passes over the byte",
+            "the terminal pair has no read",
+            "the read of the terminal pair stores nothing",
+            "a rise takes a read that was delayed for done",
+            "the delayed read of a byte stores the byte before it",
+            "a delay ends with a hold",
+        ];
+        for name in names {
+            let (_, _, standin) = bugs().into_iter().find(|(bug, ..)| *bug == name).expect(name);
+            let mut machine = Held::new(Standin(standin));
+            let found = caught_by(|| screen::run(&mut Sides::One(&mut machine), SEED, false).map(drop)).expect(name);
+            assert!(found.starts_with("swaps: from seed 8726, run "), "{name}: {found}");
+        }
+    }
+
+    /// A controller that loses no byte to a call that is low alone is not the original, and an error here.
+    #[test]
+    fn a_call_low_alone_must_lose_a_byte() {
+        let name = "a rise never returns to the read phase";
+        let (_, _, standin) = bugs().into_iter().find(|(bug, ..)| *bug == name).unwrap();
+        let found = screen::lone(&mut Sides::One(&mut Held::new(Standin(standin))), SEED).unwrap_err();
+        assert!(found.contains(" run 0 with a call low alone, 1 bytes at 524288 under High: "), "{found}");
+        assert!(screen::lone(&mut Sides::One(&mut Original::default()), SEED).is_ok());
     }
 
     /// Lines that a small storage does not connect choose nothing: what a call stores by one address is recalled by others,
