@@ -7,9 +7,10 @@ use std::iter::{from_fn, repeat, repeat_n};
 /// Without end.
 pub type Course = Box<dyn Iterator<Item = bool>>;
 
-/// A screen as request L6's bound has it: so many low calls in so many.
+/// A screen's BA by request L6's bound: 40 low calls of so many.
 pub const SCREEN: usize = 504;
-const SCREEN_HIGH: usize = SCREEN - 40;
+/// Of these the high ones.
+pub const SCREEN_HIGH: usize = SCREEN - 40;
 
 /// A PAL frame, its text rows from the first badline to the last, and the cycles in which a badline's BA is low.
 const LINE: usize = 63;
@@ -28,7 +29,7 @@ pub enum Kind {
     Screen(usize),
     /// A PAL VIC's with text, and sprites that are drawn.
     Vic,
-    /// Stretches of so many high and so many low calls in turn, begun anywhere in a high one.
+    /// Stretches of so many high and so many low calls in turn, begun with the first or second call of a high one.
     Turns(&'static [(usize, usize)]),
     /// Stretches of drawn lengths.
     Drawn,

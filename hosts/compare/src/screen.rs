@@ -3,12 +3,13 @@
 //! at what the library makes of a fall or a rise. The inputs are of the request's kind: no other call, and no low stretch
 //! of one call. (What is counted of them is told from the controller before each call, which is the original's in a pair.)
 //!
-//! The request also has consecutive cycle numbers, late fall clear at the start, BA high at the first call, and `ba_high` as
-//! `ba_high_phi1` is one call later. Fewer assumptions do, so some runs leave these out.
+//! The request also assumes consecutive cycle numbers, late fall clear at the start, BA high at the first call, and that
+//! `ba_high` is what `ba_high_phi1` is one call later. The swap comes out the same without these, so some runs leave them
+//! out. Behind the runs stand those with a call that is low alone, where it does not.
 
 use crate::calls::{Call, Step};
 use crate::compare::{Pair, first_difference, list_seed};
-use crate::courses::{Course, KINDS, Kind, SCREEN, then_high};
+use crate::courses::{Course, KINDS, Kind, SCREEN, SCREEN_HIGH, then_high};
 use crate::demand3::{Block, SET};
 use crate::generate::Generator;
 use crate::remaining::remaining;
@@ -180,6 +181,7 @@ const MET: [&str; 12] = [
     "rises that wrote it",
 ];
 
+/// The same in the same order.
 #[derive(Clone, Copy)]
 enum What {
     ByCommand,
@@ -269,15 +271,16 @@ impl Plan {
         format!("{length} bytes at {size} under {kind:?}{}", if free { ", the other inputs free" } else { "" })
     }
 
+    fn each(size: usize, lengths: &[u32], kinds: &[Kind]) -> Vec<Self> {
+        let with = |length: &u32| kinds.iter().map(|kind| Self::new(size, *length, *kind)).collect::<Vec<Self>>();
+        lengths.iter().flat_map(with).collect()
+    }
+
     /// All at one size: each length with each kind of course, what is drawn, and the full lengths.
     fn all(size: usize, rng: &mut Rng) -> Vec<Self> {
-        let of =
-            |kinds: Vec<Kind>| move |length| kinds.clone().into_iter().map(move |kind| Self::new(size, length, kind));
-        let mut plans: Vec<Self> = LENGTHS.into_iter().flat_map(of(KINDS.to_vec())).collect();
-        plans.extend((0..DRAWN).map(|_| Self::drawn(size, rng)));
-        let long = [Kind::Screen(rng.below(400)), Kind::Vic];
-        plans.extend(FULL_LENGTHS.into_iter().flat_map(of(long.to_vec())));
-        plans
+        let drawn = (0..DRAWN).map(|_| Self::drawn(size, rng)).collect();
+        let long = [Kind::Screen(rng.below(SCREEN_HIGH)), Kind::Vic];
+        [Self::each(size, &LENGTHS, &KINDS), drawn, Self::each(size, &FULL_LENGTHS, &long)].concat()
     }
 }
 
@@ -380,9 +383,9 @@ impl Run<'_, '_, '_> {
 
     /// Cycle calls with BA high but at one of them, to the end of the command; `ba_high` falls one call before it.
     fn cycles_but(&mut self, low: u64) -> Result<(), String> {
-        // R16 begins with cycle 10.
         let (any, high) = (self.rng.word(), |call| call != low);
-        let first: u64 = self.rng.pick(&[10, any, u64::MAX - low]);
+        // R16 begins with cycle 10.
+        let first = if self.plan.length == 1 { 10 } else { self.rng.pick(&[any, u64::MAX - low]) };
         let mut image = self.sides.image();
         for call in 0..2 * u64::from(self.plan.length) + 3 {
             check(executes(&image), || format!("it ends after {call} calls"))?;
