@@ -160,38 +160,53 @@ fn stretches(course: impl Iterator<Item = bool>) -> Vec<usize> {
     lengths
 }
 
+/// Each kind of course from some seeds.
+fn courses() -> impl Iterator<Item = (Kind, u64)> {
+    KINDS.into_iter().flat_map(|kind| (0..20).map(move |seed| (kind, seed)))
+}
+
+/// The low ones of these stretches.
+fn low(stretches: &[usize]) -> Vec<usize> {
+    stretches.iter().skip(1).step_by(2).copied().collect()
+}
+
 #[test]
 fn each_course_of_ba_begins_high_and_has_no_call_low_alone() {
-    for (kind, seed) in KINDS.into_iter().flat_map(|kind| (0..20).map(move |seed| (kind, seed))) {
+    for (kind, seed) in courses() {
+        let found = stretches(kind.course(&mut Rng::new(seed)).take(40_000));
+        assert!(low(&found).is_empty() == matches!(kind, Kind::High), "{kind:?} {seed} {found:?}");
+        assert!(found.iter().all(|length| *length > 0), "{kind:?} {seed} {found:?}");
+        assert!(low(&found).iter().all(|length| *length >= 2), "{kind:?} {seed} {found:?}");
+    }
+}
+
+/// Wherever it ends in a high stretch that stays, a low stretch is not cut.
+#[test]
+fn a_course_that_ends_has_no_call_low_alone() {
+    for ((kind, seed), calls) in courses().flat_map(|course| (0..100).map(move |calls| (course, calls))) {
         let course = || kind.course(&mut Rng::new(seed));
-        let found = stretches(course().take(40_000));
-        let low = found.iter().skip(1).step_by(2);
-        assert!(found.is_empty() == matches!(kind, Kind::High), "{kind:?} {found:?}");
-        assert!(found.iter().all(|length| *length > 0) && low.clone().all(|length| *length >= 2), "{kind:?} {seed}");
-        // Nor where it ends in a high stretch that stays.
-        for calls in 0..100 {
-            let ended: Vec<bool> = then_high(course(), calls).take(calls + 1_000).collect();
-            let found = stretches(ended.iter().copied());
-            assert!(found.iter().skip(1).step_by(2).all(|length| *length >= 2), "{kind:?} {seed} {calls}");
-            assert!(
-                ended[..calls] == course().take(calls).collect::<Vec<bool>>()
-                    && ended[calls + 100..].iter().all(|high| *high)
-            );
-        }
+        let ended: Vec<bool> = then_high(course(), calls).take(calls + 1_000).collect();
+        let found = low(&stretches(ended.iter().copied()));
+        assert!(found.iter().all(|length| *length >= 2), "{kind:?} {seed} {calls} {found:?}");
+        assert!(ended[..calls] == course().take(calls).collect::<Vec<bool>>(), "{kind:?} {seed} {calls}");
+        assert!(ended[calls + 100..].iter().all(|high| *high), "{kind:?} {seed} {calls}");
     }
 }
 
 #[test]
-fn a_screen_is_low_for_40_calls_of_504_and_a_vic_for_43_at_each_badline() {
+fn a_screen_is_low_for_40_calls_of_504() {
     for from in [0, 1, 300, 463] {
         let screen = stretches(Kind::Screen(from).course(&mut Rng::new(SEED)).take(50_000));
         assert!(screen[0] == 464 - from && screen[1..].chunks_exact(2).all(|pair| pair == [40, 464]), "{from}");
     }
+}
+
+#[test]
+fn a_vic_is_low_for_43_calls_at_each_badline_and_for_no_less_than_a_sprite() {
     for seed in 0..20 {
-        let frame = stretches(Kind::Vic.course(&mut Rng::new(seed)).take(2 * 312 * 63));
-        let low: Vec<usize> = frame.into_iter().skip(1).step_by(2).collect();
-        assert!(low.iter().filter(|length| **length >= 43).count() >= 25, "{low:?}");
-        assert!(low.iter().all(|length| *length >= 5), "{low:?}");
+        let frame = low(&stretches(Kind::Vic.course(&mut Rng::new(seed)).take(2 * 312 * 63)));
+        assert!(frame.iter().filter(|length| **length >= 43).count() >= 25, "{frame:?}");
+        assert!(frame.iter().all(|length| *length >= 5), "{frame:?}");
     }
 }
 
@@ -212,15 +227,11 @@ fn swapped() -> (Rule, Vec<u8>, Vec<u8>) {
 fn the_rule_of_swaps_sees_each_byte_that_differs() {
     let (rule, bus, storage) = swapped();
     assert_eq!(rule.ended(&bus, &storage), Ok(()));
-    for at in [0, 2, 3, 65_533, 65_534] {
-        let mut wrong = bus.clone();
-        wrong[at] ^= 1;
-        assert!(rule.ended(&wrong, &storage).unwrap_err().contains(" times, not "), "bus {at}");
-    }
-    for at in [0, 2, 131_068, 131_071] {
-        let mut wrong = storage.clone();
-        wrong[at] ^= 0x80;
-        assert!(rule.ended(&bus, &wrong).unwrap_err().contains(" times, not "), "storage {at}");
+    let memories = [&bus[..], &storage[..]].concat();
+    for at in [0, 2, 3, 65_533, 65_534, BUS, BUS + 2, BUS + 131_068, BUS + 131_071] {
+        let mut wrong = memories.clone();
+        wrong[at] ^= 0x81;
+        assert!(rule.ended(&wrong[..BUS], &wrong[BUS..]).unwrap_err().contains(" times, not "), "{at}");
     }
 }
 
@@ -241,20 +252,19 @@ fn the_rule_of_swaps_sees_bytes_that_stand_elsewhere() {
     assert!(rule.ended(&back, &there).unwrap_err().starts_with("bus byte "));
 }
 
-/// What a swap of two bytes may do at each call: whether BA is high, a byte is completed, and the command goes on.
+/// What the rule says of a swap of two bytes by its calls: whether BA is high, a byte is completed, and the command goes on.
+fn paced(calls: &[(bool, bool, bool)]) -> Result<(), String> {
+    let mut pace = Pace::default();
+    calls.iter().try_for_each(|(high, completed, goes_on)| pace.call(*high, *completed, *goes_on, 2))
+}
+
 #[test]
 fn the_rule_of_swaps_sees_one_that_does_not_come_on() {
-    let paced = |calls: &[(bool, bool, bool)]| {
-        let mut pace = Pace::default();
-        calls.iter().try_for_each(|(high, completed, goes_on)| pace.call(*high, *completed, *goes_on, 2))
-    };
     let (idle, low, byte, end) = ((true, false, true), (false, false, true), (true, true, true), (true, true, false));
-    for right in [vec![idle, byte, idle, end], vec![idle, low, idle, low, low, idle, byte, idle, low, idle, end]] {
-        assert_eq!(paced(&right), Ok(()));
-    }
-    let stands = "two high calls in a row complete no byte";
+    assert_eq!(paced(&[idle, byte, idle, end]), Ok(()));
+    assert_eq!(paced(&[idle, low, idle, low, low, idle, byte, idle, low, idle, end]), Ok(()));
     for wrong in [vec![idle, idle], vec![idle, low, idle, idle], vec![byte, idle, idle]] {
-        assert_eq!(paced(&wrong).unwrap_err(), stands);
+        assert_eq!(paced(&wrong).unwrap_err(), "two high calls in a row complete no byte");
     }
     assert_eq!(paced(&[idle, byte, idle, byte]).unwrap_err(), "4 high calls in a row do not end it");
 }
