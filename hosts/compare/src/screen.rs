@@ -27,6 +27,8 @@ const DRAWN: usize = 250;
 const BRIEF: usize = 60;
 /// Swaps with a call that is low alone.
 const LONE: u64 = 60;
+/// Blocks of no more bytes are looked at after each call.
+const SHORT: usize = 40;
 /// After so many calls for each byte, and some more, BA stays high: with high stretches of one call a swap may never end.
 const PATIENCE: usize = 6;
 
@@ -114,18 +116,35 @@ fn occurrences(bus: &[u8], storage: &[u8]) -> [u32; 256] {
     counts
 }
 
-/// What a swap of this block must leave of these memories.
+/// What a swap of this block must leave of these memories, and the places of a short block's bytes in both.
 pub struct Rule {
     bus: Vec<u8>,
     storage: Vec<u8>,
     occurrences: [u32; 256],
+    places: Vec<(usize, usize)>,
 }
 
 impl Rule {
     pub fn new(block: &Block, bus: &[u8], storage: &[u8]) -> Self {
         let occurrences = occurrences(bus, storage);
+        let short = if block.length <= SHORT { block.length } else { 0 };
+        let places = (0..short).map(|at| block.places(at, storage.len())).collect();
         let (bus, storage) = block.exchanged(bus, storage);
-        Self { bus, storage, occurrences }
+        Self { bus, storage, occurrences, places }
+    }
+
+    /// On the way so many bytes of the block have changed places, its first ones, and no others, but that the storage may
+    /// have the bus's next one. What a byte was before is what its partner is after.
+    pub fn midway(&self, done: usize, bus: &[u8], storage: &[u8]) -> Result<(), String> {
+        let wrong = self.places.iter().enumerate().find(|(at, (addr, offset))| {
+            let (sent, latched) = (self.storage[*offset], self.bus[*addr]);
+            let now = (bus[*addr], storage[*offset]);
+            let right = if *at < done { (latched, sent) } else { (sent, latched) };
+            now != right && !(*at == done && now == (sent, sent))
+        });
+        check(wrong.is_none(), || {
+            format!("with {done} bytes done byte {:?} is not as it should be", wrong.map(|(at, _)| at))
+        })
     }
 
     /// At the end no value has come or gone, every byte of the block has changed places, and no other byte differs.
@@ -353,7 +372,7 @@ impl Run<'_, '_, '_> {
     }
 
     /// Cycle calls until the command has ended. Answers how many there were.
-    fn cycles(&mut self) -> Result<u64, String> {
+    fn cycles(&mut self, rule: &Rule) -> Result<u64, String> {
         let (length, mut course) = (self.plan.length as usize, self.course().peekable());
         let (any, near) = (self.rng.word(), self.rng.below(300) as u64);
         let mut cycle = self.rng.pick(&[0, 1, any, any, u64::MAX - near, u64::MAX, 1 << 32]);
@@ -369,8 +388,11 @@ impl Run<'_, '_, '_> {
             let told = |what: String| format!("in call {}: {what}", pace.calls);
             self.sides.call(call).map_err(told)?;
             let after = self.sides.image();
-            let completed = after[IMAGE_TRANSFER] == 0 || remaining(&after) < remaining(&before);
+            let left = if after[IMAGE_TRANSFER] == 0 { 0 } else { remaining(&after) as usize };
+            let completed = left < remaining(&before) as usize;
             pace.call(high, completed, executes(&after), length)?;
+            let tried = self.sides.tried();
+            rule.midway(length.saturating_sub(left), tried.bus(), tried.storage())?;
             (cycle, was_high, before) = (cycle.wrapping_add(1), high, after);
         }
         Ok(pace.calls)
@@ -422,7 +444,7 @@ impl Run<'_, '_, '_> {
         check(block.length == self.plan.length as usize, || format!("the length shows {}", block.length))?;
         let tried = self.sides.tried();
         let rule = Rule::new(&block, tried.bus(), tried.storage());
-        let calls = self.cycles()?;
+        let calls = self.cycles(&rule)?;
         let most = (SCREEN * (block.length / 232 + 2)) as u64;
         let screen = matches!(self.plan.kind, Kind::Screen(_)) && !self.plan.free;
         check(!screen || calls <= most, || format!("it takes {calls} calls, more than {most}"))?;

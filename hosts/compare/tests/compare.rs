@@ -252,6 +252,24 @@ fn the_rule_of_swaps_sees_bytes_that_stand_elsewhere() {
     assert!(rule.ended(&back, &there).unwrap_err().starts_with("bus byte "));
 }
 
+/// Two bytes are done in each of these, and none in the same with another number.
+#[test]
+fn the_rule_of_swaps_sees_on_the_way_which_bytes_are_done() {
+    let (rule, after_bus, after_storage) = swapped();
+    let (mut bus, mut storage) = (after_bus.clone(), after_storage.clone());
+    for (addr, offset) in [(0, 131_071), (1, 0), (2, 1)] {
+        std::mem::swap(&mut bus[addr], &mut storage[offset]);
+    }
+    assert_eq!(rule.midway(2, &bus, &storage), Ok(()));
+    assert!([0, 1, 3, 4, 5].iter().all(|done| rule.midway(*done, &bus, &storage).is_err()));
+    assert_eq!(rule.midway(5, &after_bus, &after_storage), Ok(()));
+    // The storage may have the bus's next byte, and none behind it.
+    storage[131_071] = bus[0];
+    assert_eq!(rule.midway(2, &bus, &storage), Ok(()));
+    storage[0] = bus[1];
+    assert!(rule.midway(2, &bus, &storage).is_err());
+}
+
 /// What the rule says of a swap of two bytes by its calls: whether BA is high, a byte is completed, and the command goes on.
 fn paced(calls: &[(bool, bool, bool)]) -> Result<(), String> {
     let mut pace = Pace::default();
