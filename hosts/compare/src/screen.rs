@@ -27,8 +27,6 @@ const DRAWN: usize = 250;
 const BRIEF: usize = 60;
 /// Swaps with a call that is low alone.
 const LONE: u64 = 60;
-/// Blocks of no more bytes are looked at after each call.
-const SHORT: usize = 40;
 /// After so many calls for each byte, and some more, BA stays high: with high stretches of one call a swap may never end.
 const PATIENCE: usize = 6;
 
@@ -116,35 +114,35 @@ fn occurrences(bus: &[u8], storage: &[u8]) -> [u32; 256] {
     counts
 }
 
-/// What a swap of this block must leave of these memories, and the places of a short block's bytes in both.
+/// What a swap of this block must leave of these memories.
 pub struct Rule {
+    block: Block,
     bus: Vec<u8>,
     storage: Vec<u8>,
     occurrences: [u32; 256],
-    places: Vec<(usize, usize)>,
 }
 
 impl Rule {
     pub fn new(block: &Block, bus: &[u8], storage: &[u8]) -> Self {
         let occurrences = occurrences(bus, storage);
-        let short = if block.length <= SHORT { block.length } else { 0 };
-        let places = (0..short).map(|at| block.places(at, storage.len())).collect();
         let (bus, storage) = block.exchanged(bus, storage);
-        Self { bus, storage, occurrences, places }
+        Self { block: *block, bus, storage, occurrences }
     }
 
     /// On the way so many bytes of the block have changed places, its first ones, and no others, but that the storage may
-    /// have the bus's next one. What a byte was before is what its partner is after.
+    /// have the bus's next one. It looks at the last of these and at the next two; what a byte was is what its partner is after.
     pub fn midway(&self, done: usize, bus: &[u8], storage: &[u8]) -> Result<(), String> {
-        let wrong = self.places.iter().enumerate().find(|(at, (addr, offset))| {
-            let (sent, latched) = (self.storage[*offset], self.bus[*addr]);
-            let now = (bus[*addr], storage[*offset]);
-            let right = if *at < done { (latched, sent) } else { (sent, latched) };
-            now != right && !(*at == done && now == (sent, sent))
-        });
-        check(wrong.is_none(), || {
-            format!("with {done} bytes done byte {:?} is not as it should be", wrong.map(|(at, _)| at))
-        })
+        for at in done.saturating_sub(1)..self.block.length.min(done + 2) {
+            let (addr, offset) = self.block.places(at, storage.len());
+            let (sent, latched) = (self.storage[offset], self.bus[addr]);
+            let now = (bus[addr], storage[offset]);
+            let right = if at < done { (latched, sent) } else { (sent, latched) };
+            let ahead = at == done && now == (sent, sent);
+            check(now == right || ahead, || {
+                format!("with {done} bytes done byte {at} is {now:02x?}, not {right:02x?}")
+            })?;
+        }
+        Ok(())
     }
 
     /// At the end no value has come or gone, every byte of the block has changed places, and no other byte differs.
@@ -285,6 +283,16 @@ impl Plan {
         Self { free: rng.one_in(3), ..Self::new(size, length, Kind::any(rng)) }
     }
 
+    /// The turns of a course with a bound: all calls of one, and its high ones, which come in a row.
+    fn turns(self) -> Option<(usize, usize)> {
+        match self.kind {
+            _ if self.free => None,
+            Kind::Screen(_) => Some((SCREEN, SCREEN_HIGH)),
+            Kind::Turns(&[(high, low)]) if high >= 2 => Some((high + low, high)),
+            _ => None,
+        }
+    }
+
     fn told(self) -> String {
         let Self { size, length, kind, free } = self;
         format!("{length} bytes at {size} under {kind:?}{}", if free { ", the other inputs free" } else { "" })
@@ -345,8 +353,9 @@ impl Run<'_, '_, '_> {
         image
     }
 
-    /// Starts a swap, by a write of COMMAND or by FF00; the block is what the registers show right before.
-    fn start(&mut self) -> Result<Block, String> {
+    /// Starts a swap, by a write of COMMAND or by FF00; the rule is of what the registers show right before, and of both memories
+    /// then.
+    fn start(&mut self) -> Result<Rule, String> {
         let image = self.start_image();
         self.sides.step(Step::Image(image))?;
         let (by_ff00, free) = (self.rng.one_in(2), self.rng.byte() & 0x6C);
@@ -356,12 +365,14 @@ impl Run<'_, '_, '_> {
             self.sides.call(write)?;
         }
         let block = self.sides.shown()?;
+        let tried = self.sides.tried();
+        let rule = Rule::new(&block, tried.bus(), tried.storage());
         self.sides.call(if by_ff00 { Call::TriggerFf00 } else { write })?;
         self.met.add(if by_ff00 { What::ByFf00 } else { What::ByCommand });
         if image[IMAGE_TRANSFER] == 1 {
             self.met.add(What::CutsIn);
         }
-        Ok(block)
+        Ok(rule)
     }
 
     /// The course of BA; in a free run low calls may come before it.
@@ -384,15 +395,15 @@ impl Run<'_, '_, '_> {
             if was_high && !high {
                 self.met.add(What::Low);
             }
-            let call = self.cycle(ba_high, number, high);
-            let told = |what: String| format!("in call {}: {what}", pace.calls);
+            let (call, at) = (self.cycle(ba_high, number, high), pace.calls);
+            let told = |what: String| format!("in call {at}: {what}");
             self.sides.call(call).map_err(told)?;
             let after = self.sides.image();
             let left = if after[IMAGE_TRANSFER] == 0 { 0 } else { remaining(&after) as usize };
             let completed = left < remaining(&before) as usize;
-            pace.call(high, completed, executes(&after), length)?;
+            pace.call(high, completed, executes(&after), length).map_err(told)?;
             let tried = self.sides.tried();
-            rule.midway(length.saturating_sub(left), tried.bus(), tried.storage())?;
+            rule.midway(length.saturating_sub(left), tried.bus(), tried.storage()).map_err(told)?;
             (cycle, was_high, before) = (cycle.wrapping_add(1), high, after);
         }
         Ok(pace.calls)
@@ -422,7 +433,7 @@ impl Run<'_, '_, '_> {
     /// A swap in which the call after the read of one byte is low alone: of that byte the storage's is lost and both places
     /// end as the bus's. With the lost one put there, the rule holds.
     fn loses_a_byte(&mut self) -> Result<(), String> {
-        let (block, at) = (self.start()?, self.rng.below(self.plan.length as usize));
+        let (Rule { block, .. }, at) = (self.start()?, self.rng.below(self.plan.length as usize));
         let (addr, offset) = block.places(at, self.plan.size);
         let lost = self.sides.tried().storage()[offset];
         self.sides.step(Step::Bus(addr as u16, !lost))?;
@@ -440,14 +451,12 @@ impl Run<'_, '_, '_> {
 
     /// A swap from its start to its end.
     fn swap(&mut self) -> Result<(), String> {
-        let block = self.start()?;
-        check(block.length == self.plan.length as usize, || format!("the length shows {}", block.length))?;
-        let tried = self.sides.tried();
-        let rule = Rule::new(&block, tried.bus(), tried.storage());
+        let rule = self.start()?;
+        let length = rule.block.length;
+        check(length == self.plan.length as usize, || format!("the length shows {length}"))?;
         let calls = self.cycles(&rule)?;
-        let most = (SCREEN * (block.length / 232 + 2)) as u64;
-        let screen = matches!(self.plan.kind, Kind::Screen(_)) && !self.plan.free;
-        check(!screen || calls <= most, || format!("it takes {calls} calls, more than {most}"))?;
+        let most = self.plan.turns().map(|(every, high)| (every * (length / (high / 2) + 2)) as u64);
+        check(most.is_none_or(|most| calls <= most), || format!("it takes {calls} calls, more than {most:?}"))?;
         self.sides.whole()?;
         let tried = self.sides.tried();
         rule.ended(tried.bus(), tried.storage())

@@ -252,7 +252,7 @@ fn the_rule_of_swaps_sees_bytes_that_stand_elsewhere() {
     assert!(rule.ended(&back, &there).unwrap_err().starts_with("bus byte "));
 }
 
-/// Two bytes are done in each of these, and none in the same with another number.
+/// Two of five bytes are done: any other number is wrong.
 #[test]
 fn the_rule_of_swaps_sees_on_the_way_which_bytes_are_done() {
     let (rule, after_bus, after_storage) = swapped();
