@@ -12,14 +12,24 @@ use original::machine::Machine;
 use sides::{Library, Side};
 use work::{Answers, Work};
 
-/// What a turn measures, and how many calls (frames of the mix) it makes.
-const MEASURED: [(Work, u64); 6] = [
+/// What a turn measures, and how many calls (frames of the mix) it makes: more of a short one, or its time on the original
+/// would be too short to tell.
+const MEASURED: [(Work, u64); 15] = [
     (Work::Mix, 50),
     (Work::Idle, 1_000_000),
     (Work::Store, 1_000_000),
+    (Work::Recall, 1_000_000),
     (Work::Swap, 1_000_000),
-    (Work::Read, 1_000_000),
-    (Work::Write, 1_000_000),
+    (Work::SwapUnderBa, 1_000_000),
+    (Work::Verify, 1_000_000),
+    (Work::Hold, 1_000_000),
+    (Work::Read, 2_000_000),
+    (Work::Write, 2_000_000),
+    (Work::DebugRegister, 4_000_000),
+    (Work::DmaActive, 4_000_000),
+    (Work::C64Access, 4_000_000),
+    (Work::StoragePresent, 4_000_000),
+    (Work::CapacityBytes, 4_000_000),
 ];
 
 fn name(work: Work) -> &'static str {
@@ -29,6 +39,7 @@ fn name(work: Work) -> &'static str {
 /// Runs some work on a fresh side; answers the nanoseconds per call as well.
 fn timed<S: Side>(work: Work, count: u64) -> (f64, Answers, [Vec<u8>; 3]) {
     let mut side = S::enabled();
+    work::prepare(&mut side, work);
     let start = clock::nanoseconds();
     let answers = work::run(&mut side, work, count);
     let spent = clock::nanoseconds() - start;
@@ -65,14 +76,11 @@ fn measure(turns: usize) {
     }
 }
 
-fn count(side: &str, work: &str, count: u64) -> Option<u64> {
+fn count<S: Side>(work: &str, count: u64) -> Option<u64> {
     let (work, _) = Work::ALL.into_iter().find(|(_, name)| *name == work)?;
-    let answers = match side {
-        "library" => work::run(&mut Library::enabled(), work, count),
-        "original" => work::run(&mut Machine::enabled(), work, count),
-        _ => return None,
-    };
-    Some(answers.calls)
+    let mut side = S::enabled();
+    work::prepare(&mut side, work);
+    Some(work::run(&mut side, work, count).calls)
 }
 
 fn main() {
@@ -81,7 +89,11 @@ fn main() {
         [] => measure(21),
         ["works"] => Work::ALL.iter().for_each(|(_, name)| println!("{name}")),
         ["count", side, work, number] => {
-            let calls = number.parse().ok().and_then(|number| count(side, work, number));
+            let calls = number.parse().ok().and_then(|number| match *side {
+                "library" => count::<Library>(work, number),
+                "original" => count::<Machine>(work, number),
+                _ => None,
+            });
             println!("{}", calls.expect("bench count library|original WORK COUNT"));
         }
         [turns] => measure(turns.parse().expect("bench [TURNS]")),
@@ -100,5 +112,17 @@ mod tests {
         for (work, _) in Work::ALL {
             turn(work, if work == Work::Mix { 2 } else { 150_000 }, true);
         }
+    }
+
+    /// While a transfer is held it is running, and neither it nor a byte of the memories moves.
+    #[test]
+    fn hold_moves_nothing() {
+        let held = |calls| {
+            let mut side = Machine::enabled();
+            work::prepare(&mut side, Work::Hold);
+            work::run(&mut side, Work::Hold, calls);
+            (Side::dma_active(&mut side), side.machine())
+        };
+        assert!(held(1) == held(1000) && held(1).0 == 1);
     }
 }

@@ -11,6 +11,8 @@ pub trait Side {
     fn read(&mut self, addr: u16) -> u32;
     fn write(&mut self, addr: u16, value: u8) -> u32;
     fn debug_register(&mut self, index: u64) -> u32;
+    fn storage_present(&mut self) -> u32;
+    fn capacity_bytes(&mut self) -> u32;
     fn trigger_ff00(&mut self) -> u32;
     fn dma_active(&mut self) -> u32;
     fn c64_access(&mut self) -> u32;
@@ -63,6 +65,14 @@ impl Side for Library {
 
     fn debug_register(&mut self, index: u64) -> u32 {
         unsafe { raw::reu_debug_register(self.image(), IMAGE_SIZE, index) }
+    }
+
+    fn storage_present(&mut self) -> u32 {
+        unsafe { raw::reu_storage_present(self.image(), IMAGE_SIZE) }
+    }
+
+    fn capacity_bytes(&mut self) -> u32 {
+        unsafe { raw::reu_capacity_bytes(self.image(), IMAGE_SIZE) }
     }
 
     fn trigger_ff00(&mut self) -> u32 {
@@ -128,6 +138,14 @@ impl Side for Machine {
 
     fn debug_register(&mut self, index: u64) -> u32 {
         Machine::debug_register(self, index)
+    }
+
+    fn storage_present(&mut self) -> u32 {
+        Machine::storage_present(self)
+    }
+
+    fn capacity_bytes(&mut self) -> u32 {
+        Machine::capacity_bytes(self)
     }
 
     fn trigger_ff00(&mut self) -> u32 {

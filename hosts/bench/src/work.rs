@@ -5,7 +5,7 @@ use crate::sides::Side;
 use reu::{PASSED_C64, PASSED_EXPANSION};
 use std::hint::black_box;
 
-/// A kind of work. `Mix` comes first: it is what the ratio is about.
+/// A kind of work. `Mix` comes first: it is what the ratio is about. Those behind `CapacityBytes` are counted and not timed.
 #[derive(Clone, Copy, Debug, PartialEq)]
 pub enum Work {
     Mix,
@@ -13,34 +13,43 @@ pub enum Work {
     Store,
     Recall,
     Swap,
+    SwapUnderBa,
     Verify,
+    /// A transfer is running and never comes on: BA stays low.
+    Hold,
     Read,
     Write,
     DebugRegister,
-    BusAction,
-    TriggerFf00,
     DmaActive,
     C64Access,
+    StoragePresent,
+    CapacityBytes,
+    BusAction,
+    TriggerFf00,
     CpuReady,
     /// Nothing is called: what the loop itself costs.
     Loop,
 }
 
 impl Work {
-    pub const ALL: [(Work, &str); 15] = [
+    pub const ALL: [(Work, &str); 19] = [
         (Work::Mix, "mix"),
         (Work::Idle, "idle cycle"),
         (Work::Store, "store cycle"),
         (Work::Recall, "recall cycle"),
-        (Work::Swap, "swap cycle under BA"),
+        (Work::Swap, "swap cycle"),
+        (Work::SwapUnderBa, "swap cycle under BA"),
         (Work::Verify, "verify cycle"),
+        (Work::Hold, "hold cycle"),
         (Work::Read, "read"),
         (Work::Write, "write"),
         (Work::DebugRegister, "debug_register"),
-        (Work::BusAction, "bus_action, idle"),
-        (Work::TriggerFf00, "trigger_ff00, not armed"),
         (Work::DmaActive, "dma_active"),
         (Work::C64Access, "c64_access"),
+        (Work::StoragePresent, "storage_present"),
+        (Work::CapacityBytes, "capacity_bytes"),
+        (Work::BusAction, "bus_action, idle"),
+        (Work::TriggerFf00, "trigger_ff00, not armed"),
         (Work::CpuReady, "cpu_ready_after_dma"),
         (Work::Loop, "the loop itself"),
     ];
@@ -134,25 +143,33 @@ fn mix<S: Side>(side: &mut S, frames: u64) -> Answers {
     answers
 }
 
-/// Runs some work on a side: so many calls, or frames of the mix.
+/// What a work needs and is not timed: a verify, that all bytes are equal.
+pub fn prepare<S: Side>(side: &mut S, work: Work) {
+    if work == Work::Verify {
+        transfer(side, 65_536, 0x90, &[Ba::HIGH]);
+    }
+}
+
+/// Runs some work on a side that is prepared for it: so many calls, or frames of the mix.
 pub fn run<S: Side>(side: &mut S, work: Work, count: u64) -> Answers {
     match work {
         Work::Mix => mix(side, count),
         Work::Idle => repeat(side, count, |side, number| cycle(side, Ba::HIGH, number)),
         Work::Store => transfer(side, count, 0x90, &[Ba::HIGH]),
         Work::Recall => transfer(side, count, 0x91, &[Ba::HIGH]),
-        Work::Swap => transfer(side, count, 0x92, &screen::frame()),
-        Work::Verify => {
-            transfer(side, 65_536, 0x90, &[Ba::HIGH]); // so that all bytes are equal
-            transfer(side, count, 0x93, &[Ba::HIGH])
-        }
+        Work::Swap => transfer(side, count, 0x92, &[Ba::HIGH]),
+        Work::SwapUnderBa => transfer(side, count, 0x92, &screen::frame()),
+        Work::Verify => transfer(side, count, 0x93, &[Ba::HIGH]),
+        Work::Hold => transfer(side, count, 0x90, &[Ba::LOW]),
         Work::Read => repeat(side, count, |side, number| side.read(0xDF00 + (number % 11) as u16)),
         Work::Write => repeat(side, count, |side, number| side.write(0xDF02 + (number % 7) as u16, number as u8)),
         Work::DebugRegister => repeat(side, count, |side, number| side.debug_register(number % 11)),
-        Work::BusAction => repeat(side, count, |side, number| side.bus_action(1, 1, number)),
-        Work::TriggerFf00 => repeat(side, count, |side, _| side.trigger_ff00()),
         Work::DmaActive => repeat(side, count, |side, _| side.dma_active()),
         Work::C64Access => repeat(side, count, |side, _| side.c64_access()),
+        Work::StoragePresent => repeat(side, count, |side, _| side.storage_present()),
+        Work::CapacityBytes => repeat(side, count, |side, _| side.capacity_bytes()),
+        Work::BusAction => repeat(side, count, |side, number| side.bus_action(1, 1, number)),
+        Work::TriggerFf00 => repeat(side, count, |side, _| side.trigger_ff00()),
         Work::CpuReady => repeat(side, count, |side, number| side.cpu_ready_after_dma((number & 1) as u32)),
         Work::Loop => repeat(side, count, |_, number| number as u32),
     }
