@@ -2,22 +2,23 @@
 use mathlib.Core.Path.{◌≡◌, refl, sym, ap, ◌∙◌}
 use mathlib.Core.Bool.{Bool, true, false, cond, not, ◌&&◌, ◌||◌}
 use mathlib.Core.List.{List, ◌++◌}
-use Prim.Native.Nat.{ℕ, zero, suc, ◌+◌, ◌-◌, ◌*◌, ◌<◌}
+use Prim.Native.Nat.{ℕ, ◌+◌, ◌*◌, ◌<◌}
 use native.Mathlib.Omega.{arith}
 use lib.ListN.{length, get_or, take, drop}
 use lib.Seq.{sets}
 use lib.Dec.{eqb}
-use Rattle.std.specs.List.{list_all}
-use borrow.Author.Tests.{eq-eqb, ne_eqb}
+use Rattle.std.specs.Int.{w64, from_le_bytes}
+use borrow.Author.Tests.{eq-eqb, eqb-true, ne_eqb}
+use Rattle.std.specs.Cmp.{both_ways}
 use Rattle.transfer.specs.Constants.{register_count}
 use Rattle.controller.specs.declared.reu.Reu.{Reu}
 use Rattle.std.specs.Prelude.{Option, None, Some}
-use Rattle.image.specs.Radix.{parted, below}
-use Rattle.image.specs.Fields.{radices, values, laid, lifted}
+use Rattle.image.specs.Radix.{below}
+use Rattle.image.specs.Fields.{values, laid, lifted}
 use Rattle.image.specs.Layout.{fields, image_size, at, shadow_c64, shadow_exp, shadow_length, flags, more_flags, delay, transfer, kind, granted_field, place_of, flags_of, flag_bits, more_number, present, transfer_fields, transfer_numbers, other_with, pack_image, transfer_of, dma_in}
-use Rattle.image.specs.Inner.{transfer_part, gets}
+use Rattle.image.specs.Inner.{transfer_part, gets, stored}
 use Rattle.image.specs.Open.{all_zero, bytes_ok}
-use Rattle.image.proofs.Fields.{needed, needed_are, all_true, lifted_below}
+use Rattle.image.proofs.Fields.{and_left, and_right, needed, needed_are, all_true, lifted_below}
 use Rattle.image.proofs.Gets.{gets_slice, gets_all}
 use Rattle.transfer.specs.declared.dma.DmaState.{DmaState}
 
@@ -48,10 +49,10 @@ module _ (s : List ℕ) (long : length s ≡ image_size) where
   pub ranges_are : ((i : ℕ) → get_or s i 0 < 256) → below (values fields) (lifted fields s) ≡ all_true (needed fields (lifted fields (gets 0 image_size s)))
   ranges_are b = needed_are fields (lifted fields s) (lifted_below fields s b long) ∙ ap (λ (l : List ℕ). all_true (needed fields (lifted fields l))) (sym listed)
 
-  abbrev ranges : Bool
+  abbrev pub ranges : Bool
   ranges = below (values fields) (lifted fields s)
 
-  abbrev zeros : Bool
+  abbrev pub zeros : Bool
   zeros = all_zero (take transfer_fields (drop kind (lifted fields s)))
 
   pub ok_idle : at s (place_of transfer) ≡ 0 → ranges && zeros ≡ bytes_ok s
@@ -68,29 +69,65 @@ module _ (s : List ℕ) (long : length s ≡ image_size) where
 
 -- ---- without a transfer: bytes that are all 0 say fields that are
 
-two_zero : (a b : ℕ) (r : Bool) → eqb a 0 && (eqb b 0 && r) ≡ eqb (a + 256 * b) 0 && r
-two_zero zero zero r = refl
-two_zero zero (suc b) r = ap (λ (t : Bool). t && r) (ne_eqb (suc b) 0 (λ e. omega arith) ∙ sym (ne_eqb (0 + 256 * suc b) 0 (λ e. omega arith)))
-two_zero (suc a) b r =
-    ap (λ (t : Bool). t && (eqb b 0 && r)) (ne_eqb (suc a) 0 (λ e. omega arith))
-    ∙ ap (λ (t : Bool). t && r) (sym (ne_eqb (suc a + 256 * b) 0 (λ e. omega arith)))
+-- the numbers of these fields, and a number of a transfer's eight bytes from its C64 address on
+abbrev number_c64 : List ℕ → ℕ
+number_c64 s = at s 24 + 256 * at s 25
 
-three_zero : (a b c : ℕ) (r : Bool) → eqb a 0 && (eqb b 0 && (eqb c 0 && r)) ≡ eqb (a + 256 * (b + 256 * c)) 0 && r
-three_zero a b c r = ap (λ (t : Bool). eqb a 0 && t) (two_zero b c r) ∙ two_zero a (b + 256 * c) r
+abbrev number_exp : List ℕ → ℕ
+number_exp s = at s 26 + 256 * (at s 27 + 256 * at s 28)
 
-pub idle_bytes : (s : List ℕ) → list_all (λ b. eqb b 0) (gets 22 11 s) ≡ all_zero (take transfer_fields (drop kind (lifted fields (gets 0 image_size s))))
-idle_bytes s =
-    ap (λ (t : Bool). eqb (at s 22) 0 && (eqb (at s 23) 0 && t))
-    (two_zero (at s 24) (at s 25) _
-    ∙ ap (λ (t : Bool). eqb (at s 24 + 256 * at s 25) 0 && t)
-    (three_zero (at s 26) (at s 27) (at s 28) _
-    ∙ ap (λ (t : Bool). eqb (at s 26 + 256 * (at s 27 + 256 * at s 28)) 0 && t) (two_zero (at s 29) (at s 30) _)))
+abbrev number_left : List ℕ → ℕ
+number_left s = at s 29 + 256 * at s 30
+
+abbrev all_seven : List ℕ → Bool
+all_seven s =
+    eqb (at s 22) 0 && (eqb (at s 23) 0
+    && (eqb (number_c64 s) 0 && (eqb (number_exp s) 0 && (eqb (number_left s) 0 && (eqb (at s 31) 0 && (eqb (at s 32) 0 && true))))))
+
+pub seven_zeros : (s : List ℕ) → all_seven s ≡ true
+    → (at s 22 ≡ 0) × (at s 23 ≡ 0) × (number_c64 s ≡ 0) × (number_exp s ≡ 0) × (number_left s ≡ 0) × (at s 31 ≡ 0) × (at s 32 ≡ 0)
+seven_zeros s h =
+    let r1 = and_right (eqb (at s 22) 0) _ h in
+    let r2 = and_right (eqb (at s 23) 0) _ r1 in
+    let r3 = and_right (eqb (number_c64 s) 0) _ r2 in
+    let r4 = and_right (eqb (number_exp s) 0) _ r3 in
+    let r5 = and_right (eqb (number_left s) 0) _ r4 in
+    let r6 = and_right (eqb (at s 31) 0) _ r5 in (
+      eqb-true _ 0 (and_left (eqb (at s 22) 0) _ h),
+      eqb-true _ 0 (and_left (eqb (at s 23) 0) _ r1),
+      eqb-true _ 0 (and_left (eqb (number_c64 s) 0) _ r2),
+      eqb-true _ 0 (and_left (eqb (number_exp s) 0) _ r3),
+      eqb-true _ 0 (and_left (eqb (number_left s) 0) _ r4),
+      eqb-true _ 0 (and_left (eqb (at s 31) 0) _ r5),
+      eqb-true _ 0 (and_left (eqb (at s 32) 0) true r6),
+    )
+
+-- all of them are 0 where the bytes are, looked at two, eight and one at a time
+pub idle_bytes : (s : List ℕ) → eqb (at s 22 + 256 * at s 23) 0 && (eqb (from_le_bytes w64 (gets 24 8 s)) 0 && eqb (at s 32) 0)
+    ≡ all_zero (take transfer_fields (drop kind (lifted fields (gets 0 image_size s))))
+idle_bytes s = both_ways (eqb (at s 22 + 256 * at s 23) 0 && (eqb (from_le_bytes w64 (gets 24 8 s)) 0 && eqb (at s 32) 0)) (all_seven s) to from
+  where
+    to : eqb (at s 22 + 256 * at s 23) 0 && (eqb (from_le_bytes w64 (gets 24 8 s)) 0 && eqb (at s 32) 0) ≡ true → all_seven s ≡ true
+    to h =
+        let a = eqb-true _ 0 (and_left (eqb (at s 22 + 256 * at s 23) 0) _ h) in
+        let r = and_right (eqb (at s 22 + 256 * at s 23) 0) _ h in
+        let b = eqb-true _ 0 (and_left (eqb (from_le_bytes w64 (gets 24 8 s)) 0) _ r) in
+        let c = and_right (eqb (from_le_bytes w64 (gets 24 8 s)) 0) _ r in
+        λ i. eq-eqb (at s 22) 0 (omega (arith, a)) i
+        && (eq-eqb (at s 23) 0 (omega (arith, a)) i
+        && (eq-eqb (number_c64 s) 0 (omega (arith, b)) i
+        && (eq-eqb (number_exp s) 0 (omega (arith, b)) i
+        && (eq-eqb (number_left s) 0 (omega (arith, b)) i
+        && (eq-eqb (at s 31) 0 (omega (arith, b)) i
+        && (c i && true))))))
+
+    from : all_seven s ≡ true → eqb (at s 22 + 256 * at s 23) 0 && (eqb (from_le_bytes w64 (gets 24 8 s)) 0 && eqb (at s 32) 0) ≡ true
+    from h =
+        let e = seven_zeros s h in
+        λ i. eq-eqb (at s 22 + 256 * at s 23) 0 (omega (arith, e.0, e.1)) i
+        && (eq-eqb (from_le_bytes w64 (gets 24 8 s)) 0 (omega (arith, e.2, e.3, e.4, e.5)) i && eq-eqb (at s 32) 0 e.6 i)
 
 -- ---- packing: what the stores of the fields leave of a list of the image's length
-
--- a number in the bytes of field k
-abbrev pub stored : ℕ → List ℕ → ℕ → List ℕ
-stored k l n = sets l (place_of k) (parted (radices (place_of (suc k) - place_of k)) n)
 
 module _ (r : Reu) where
   abbrev laid_over : Option DmaState → List ℕ → List ℕ → List ℕ

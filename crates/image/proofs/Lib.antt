@@ -12,3 +12,6 @@ pub mod Unpacked
 pub mod Sound
 pub mod SoundCalls
 pub mod Valid
+pub mod Accepted
+pub mod Words
+pub mod InPlace

@@ -4,3 +4,4 @@ pub mod Layout
 pub mod Open
 pub mod Valid
 pub mod Inner
+pub mod InPlace

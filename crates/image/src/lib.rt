@@ -8,20 +8,19 @@ ghost use Rattle.image.specs.Open.{open_image, opened, store_image};
 use controller::{Refusal, Reu};
 use layout::IMAGE_BYTES;
 
+pub mod in_place;
 pub mod layout;
 mod pack;
-mod unpack;
+pub mod unpack;
 
 // The controller that an image holds.
-#[tactic(auto, unfolding(crate::specs::Open::open_image, crate::specs::Open::image_ok, controller::specs::Refusals::checked))]
+#[tactic(auto, unfolding(crate::specs::Open::open_image, controller::specs::Refusals::checked))]
 pub fn open(image: &[u8]) -> Result<Reu, Refusal>
     ensures { opened result ≡ open_image image.now }
 {
     let fields: &[u8; IMAGE_BYTES] = image.try_into().map_err(|_| Refusal::Length)?;
-    let reu = unpack::controller_at(fields);
-    let ok = unpack::bytes_ok(fields);
-    if ok & reu.well_formed() {
-        Ok(reu)
+    if unpack::accepted(fields) {
+        Ok(unpack::controller_at(fields))
     } else {
         Err(Refusal::Field)
     }

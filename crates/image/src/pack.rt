@@ -21,7 +21,7 @@ use transfer::{
 
 // ---- the bytes of a field from its place on, the low byte of a number first. How many they are says where it ends, and that has to be
 // within the image. A type of places would be no plainer: it would carry the width with it, and the code has the width as N.
-fn put<const N: usize>(out: &mut [u8; IMAGE_BYTES], place: usize, bytes: [u8; N])
+pub(crate) fn put<const N: usize>(out: &mut [u8; IMAGE_BYTES], place: usize, bytes: [u8; N])
     requires { place + N ≤ image_size }
     ensures { out.new ≡ sets out.old place bytes.entry }
 {
@@ -29,7 +29,7 @@ fn put<const N: usize>(out: &mut [u8; IMAGE_BYTES], place: usize, bytes: [u8; N]
 }
 
 // An address in the expansion has three bytes.
-fn three(address: u32) -> [u8; 3]
+pub(crate) fn three(address: u32) -> [u8; 3]
     requires { address < expansion_limit }
     ensures { result ≡ parted (radices 3) address }
 {
@@ -38,7 +38,7 @@ fn three(address: u32) -> [u8; 3]
 }
 
 // Two bytes of 0 mean 65,536.
-fn remaining(left: u32) -> [u8; 2]
+pub(crate) fn remaining(left: u32) -> [u8; 2]
     ensures { result ≡ parted (radices 2) (remaining_number left) }
 {
     let [low, high, _, _] = (left % FULL_64K_TRANSFER_LENGTH).to_le_bytes();
@@ -50,7 +50,7 @@ fn remaining(left: u32) -> [u8; 2]
 // Each flag stands beside its bit. A fold over a list of flags would leave the bits to be counted.
 
 #[tactic(auto, using(crate::proofs::Flags::byte_is_bit))]
-fn flags(r: Reu) -> u8
+pub(crate) fn flags(r: Reu) -> u8
     ensures { result ≡ flags_of (flag_bits r) }
 {
     u8::from(r.enabled)
@@ -117,7 +117,7 @@ fn transfer_of(m: Option<DmaState>) -> DmaState
 }
 
 // ---- the fields at their places
-fn put_transfer(out: &mut [u8; IMAGE_BYTES], d: DmaState)
+pub(crate) fn put_transfer(out: &mut [u8; IMAGE_BYTES], d: DmaState)
     requires { Room d }
     ensures { out.new ≡ sets out.old (place_of kind) (laid transfer_part (transfer_numbers (Some d))) }
 {

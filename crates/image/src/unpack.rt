@@ -1,12 +1,11 @@
 // The controller that an image holds, field by field, and whether each field is in its range.
 ghost use Rattle.std.specs.Prelude.{◌≡◌, ◌+◌, ◌≤◌, drop, take};
-ghost use Rattle.std.specs.List.{list_all};
-ghost use Rattle.controller.specs.Prelude.{eqb};
 ghost use Rattle.image.specs.Radix.{below, joined};
 ghost use Rattle.image.specs.Fields.{lifted, radices, values};
 ghost use Rattle.image.specs.Layout.{dma_in, fields, image_size, kind, phase_of, reu_at, size_of, transfer_fields, transfer_of};
 ghost use Rattle.image.specs.Inner.{gets};
-ghost use Rattle.image.specs.Open.{all_zero, bytes_ok};
+ghost use Rattle.image.specs.Open.{all_zero, image_ok};
+ghost use Rattle.image.specs.InPlace.{marked_at};
 
 use crate::layout;
 use crate::layout::IMAGE_BYTES;
@@ -18,7 +17,7 @@ use transfer::{C64Address, DmaState, ExpansionAddress, SwapPhase, TransferType};
 // wide it is, so each of these asks that what it reads ends within the image. A type of places would be no plainer: it would carry the
 // width with it, and the code has the width as N.
 #[tactic(auto, using(crate::proofs::Gets::gets_slice))]
-fn bytes<const N: usize>(image: &[u8; IMAGE_BYTES], place: usize) -> [u8; N]
+pub(crate) fn bytes<const N: usize>(image: &[u8; IMAGE_BYTES], place: usize) -> [u8; N]
     requires { place + N ≤ image_size }
     ensures { result ≡ gets place N image.now }
 {
@@ -27,7 +26,7 @@ fn bytes<const N: usize>(image: &[u8; IMAGE_BYTES], place: usize) -> [u8; N]
     found
 }
 
-fn word(image: &[u8; IMAGE_BYTES], place: usize) -> u16
+pub(crate) fn word(image: &[u8; IMAGE_BYTES], place: usize) -> u16
     requires { place + 2 ≤ image_size }
     ensures { result ≡ joined (radices 2) (gets place 2 image.now) }
 {
@@ -67,7 +66,7 @@ fn size_of(code: u8) -> u32
 
 // ---- the controller. Each flag stands beside its bit, as in `pack`
 #[tactic(auto, using(crate::proofs::ByBytes::transfer_listed))]
-fn transfer_at(image: &[u8; IMAGE_BYTES]) -> DmaState
+pub fn transfer_at(image: &[u8; IMAGE_BYTES]) -> DmaState
     ensures { result ≡ transfer_of (lifted fields image.now) }
 {
     let options = image[layout::OPTIONS];
@@ -102,7 +101,7 @@ fn dma_at(image: &[u8; IMAGE_BYTES]) -> Option<DmaState>
     }
 }
 
-pub(crate) fn controller_at(image: &[u8; IMAGE_BYTES]) -> Reu
+pub fn controller_at(image: &[u8; IMAGE_BYTES]) -> Reu
     ensures { result ≡ reu_at image.now }
 {
     let flags = image[layout::FLAGS];
@@ -143,27 +142,33 @@ fn ranges_ok(image: &[u8; IMAGE_BYTES]) -> bool
         & (image[layout::OPTIONS] < 64)
 }
 
-fn only_zeros(bytes: &[u8]) -> bool
-    ensures { result ≡ list_all (λ b. eqb b 0) bytes.now }
-{
-    bytes.iter().all(|b| *b == 0)
-}
-
-// Without a transfer its fields are 0: a number is where each of its bytes is.
+// Without a transfer its fields are 0: a number is where each of its bytes is. The eleven bytes are looked at two and eight at a time.
 fn idle_ok(image: &[u8; IMAGE_BYTES]) -> bool
     ensures { result ≡ all_zero (take transfer_fields (drop kind (lifted fields image.now))) }
 {
-    only_zeros(&image[layout::TYPE..layout::GRANTED_CYCLES])
+    let kinds = word(image, layout::TYPE);
+    let counters = u64::from_le_bytes(bytes(image, layout::TRANSFER_C64));
+    (kinds == 0) & ((counters == 0) & (image[layout::OPTIONS] == 0))
 }
 
-#[tactic(auto, using(crate::proofs::ByBytes::ok_idle, crate::proofs::ByBytes::ok_some))]
-pub(crate) fn bytes_ok(image: &[u8; IMAGE_BYTES]) -> bool
-    ensures { result ≡ bytes_ok image.now }
+// STATUS has the mark of the size.
+#[tactic(auto, using(crate::proofs::Accepted::mark_of_code))]
+fn marked(image: &[u8; IMAGE_BYTES]) -> bool
+    ensures { result ≡ marked_at image.now }
 {
-    let ranges = ranges_ok(image);
+    (image[layout::REGISTERS] & 0x10 != 0) == (image[layout::MORE_FLAGS] < 8)
+}
+
+// Whether an image is accepted: the one test of its bytes, for opening it and for what is done to it where it stands. Without a
+// transfer few of them are left to look at.
+#[inline(always)]
+#[tactic(auto, using(crate::proofs::Accepted::rest_ok, crate::proofs::Accepted::some_ok))]
+pub fn accepted(image: &[u8; IMAGE_BYTES]) -> bool
+    ensures { result ≡ image_ok image.now }
+{
     if image[layout::TRANSFER] == 0 {
-        let idle = idle_ok(image);
-        return ranges & idle;
+        let ranges = (image[layout::MORE_FLAGS] < 12) & (image[layout::DELAY] < 3);
+        return idle_ok(image) & (ranges & marked(image));
     }
-    ranges
+    ranges_ok(image) & controller_at(image).well_formed()
 }

@@ -12,6 +12,8 @@ ghost use Rattle.reu.specs.Exports.{change, change_both, change_storage, look, r
 ghost use Rattle.reu.specs.Logged.{logged_both, logged_cycle};
 ghost use Rattle.reu.specs.Inner.{Gives, GivesBoth, GivesStored, Keeps, KeepsBoth, KeepsStored, Kept, ended, value_of};
 
+mod direct;
+
 use controller::{Answered, Refusal, Reu, Step};
 use regs::Stores;
 
@@ -298,6 +300,44 @@ pub fn logged_cycle(
 
 #[unsafe(no_mangle)]
 pub extern "C" fn reu_run_reu_cycle(
+    image: &mut [u8],
+    bus: &mut [u8],
+    storage: &mut [u8],
+    ba_high: u32,
+    cycle: u64,
+    ba_low: u32,
+    ba_high_phi1: u32,
+) -> u32
+    ensures { (result, image.new, bus.new, storage.new) ≡ reu_cycle image.old bus.old storage.old ba_high cycle ba_low ba_high_phi1 }
+{
+    match direct::resting_cycle(image, bus, storage, ba_high != 0, ba_high_phi1 != 0) {
+        Some(answer) => answer,
+        None => moving_cycle(image, bus, storage, ba_high, cycle, ba_low, ba_high_phi1),
+    }
+}
+
+// A cycle of an image that does not rest. It stays a function of its own: within the call it would take registers that an idle cycle would have to save.
+#[inline(never)]
+fn moving_cycle(
+    image: &mut [u8],
+    bus: &mut [u8],
+    storage: &mut [u8],
+    ba_high: u32,
+    cycle: u64,
+    ba_low: u32,
+    ba_high_phi1: u32,
+) -> u32
+    ensures { (result, image.new, bus.new, storage.new) ≡ reu_cycle image.old bus.old storage.old ba_high cycle ba_low ba_high_phi1 }
+{
+    match direct::moving_cycle(image, bus, storage, ba_high != 0, ba_high_phi1 != 0, cycle) {
+        Some(answer) => answer,
+        None => plain_cycle(image, bus, storage, ba_high, cycle, ba_low, ba_high_phi1),
+    }
+}
+
+// The plain way, which every image can go.
+#[inline(never)]
+fn plain_cycle(
     image: &mut [u8],
     bus: &mut [u8],
     storage: &mut [u8],

@@ -5,10 +5,10 @@ use mir.Val.{bool_byte}
 use Rattle.std.specs.Prelude.{Option, None, Some, is_some}
 use Rattle.transfer.specs.declared.dma.DmaState.{DmaState}
 use Rattle.image.specs.Fields.{laid}
-use Rattle.image.specs.Inner.{transfer_part}
+use Rattle.image.specs.Inner.{transfer_part, stored}
 use Rattle.image.specs.Layout.{place_of, shadow_c64, shadow_exp, shadow_length, flags, more_flags, delay, transfer, kind, present, granted_field}
 use Rattle.image.proofs.Numbers.{word_bytes, count_bytes}
-use Rattle.image.proofs.ByBytes.{stored, over_is}
+use Rattle.image.proofs.ByBytes.{over_is}
 use Rattle.image.proofs.pack.pack.Goals as goal
 
 -- the bytes of field k

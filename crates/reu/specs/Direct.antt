@@ -1,0 +1,50 @@
+-- What the short ways of the calls leave of an image where it stands. No exported contract cites this file.
+use Rattle.std.specs.Prelude.{◌≡◌, ◌&&◌, Option, None, Some}
+use Rattle.std.proofs.lemmas.List.Edits.{sets}
+use Rattle.controller.specs.Prelude.{ℕ, Bool, true, not, List, Store, Recall, Swap, Verify, SwapPhase, ReadC64, WriteC64, TransferType, DmaState}
+use Rattle.controller.specs.Reu.{with_history}
+use Rattle.controller.specs.Calls.{step_number}
+use Rattle.transfer.specs.Dma.{moved, passed, latched, with_latch}
+use Rattle.transfer.specs.Memory.{seen_at, bus_byte, set_bus, storage_byte, set_storage}
+use Rattle.regs.specs.FinishDma.{counters}
+use Rattle.image.specs.Fields.{laid}
+use Rattle.image.specs.Layout.{flag_bits, flags, flags_of, kind, place_of, reu_at, transfer_numbers}
+use Rattle.image.specs.Inner.{stored, transfer_part}
+
+-- what a short way answers: none is taken and nothing has changed, or what is answered and left is what the call says
+abbrev pub Short : Option ℕ → (List ℕ × List ℕ × List ℕ) → (List ℕ × List ℕ × List ℕ) → (ℕ × List ℕ × List ℕ × List ℕ) → Type 0
+Short None old left call = left ≡ old
+Short (Some a) old left call = (a, left.0, left.1, left.2) ≡ call
+
+-- the history of BA
+abbrev pub remembered_in : List ℕ → Bool → Bool → List ℕ
+remembered_in i high phi1 = stored flags i (flags_of (flag_bits (with_history (reu_at i) phi1 (phi1 && not high))))
+
+-- a transfer in its fields
+abbrev pub transfer_in : List ℕ → DmaState → List ℕ
+transfer_in i d = sets i (place_of kind) (laid transfer_part (transfer_numbers (Some d)))
+
+-- a byte of d is completed: the answer, and the image with the counters shown
+abbrev pub completed_in : List ℕ → DmaState → (ℕ × List ℕ)
+completed_in i d =
+    (step_number true (passed d), transfer_in (counters i (moved d).c64_addr.0 (moved d).reu_addr.0 (moved d).remaining) (moved d))
+
+abbrev pub with_memory : (ℕ × List ℕ) → List ℕ → List ℕ → (ℕ × List ℕ × List ℕ × List ℕ)
+with_memory x m s = (x.0, x.1, m, s)
+
+-- a swap's two halves
+abbrev pub half_in : SwapPhase → ℕ → DmaState → List ℕ → List ℕ → List ℕ → ℕ → (ℕ × List ℕ × List ℕ × List ℕ)
+half_in ReadC64 size d i m s cycle =
+    (1, transfer_in i (latched d (seen_at size d.c64_addr d.reu_addr m s) cycle), m, set_storage size s d.reu_addr (bus_byte m d.c64_addr))
+half_in WriteC64 size d i m s cycle = with_memory (completed_in i d) (set_bus m d.c64_addr d.latch) s
+
+-- a byte of each type
+abbrev pub typed_in : TransferType → ℕ → DmaState → List ℕ → List ℕ → List ℕ → ℕ → (ℕ × List ℕ × List ℕ × List ℕ)
+typed_in Store size d i m s cycle = with_memory (completed_in i d) m (set_storage size s d.reu_addr (bus_byte m d.c64_addr))
+typed_in Recall size d i m s cycle =
+    with_memory (completed_in i (with_latch d (storage_byte size s d.reu_addr))) (set_bus m d.c64_addr (storage_byte size s d.reu_addr)) s
+typed_in Swap size d i m s cycle = half_in d.swap_phase size d i m s cycle
+typed_in Verify size d i m s cycle = with_memory (completed_in i d) m s
+
+abbrev pub byte_in : ℕ → DmaState → List ℕ → List ℕ → List ℕ → ℕ → (ℕ × List ℕ × List ℕ × List ℕ)
+byte_in size d i m s cycle = typed_in d.transfer_type size d i m s cycle

@@ -1,0 +1,176 @@
+// The short ways of the exported calls: what they do to an image where it stands, without opening it whole and laying it down whole. Each
+// says in its contract that it has done what the call does; where none is taken, nothing has changed, and the call goes the plain way.
+ghost use Rattle.std.specs.Prelude.{◌≡◌, ◌&&◌, Bool, ℕ};
+ghost use Rattle.controller.specs.Calls.{cycle_call};
+ghost use Rattle.transfer.specs.Dma.{is_type};
+ghost use Rattle.transfer.specs.Memory.{bus_byte, storage_byte};
+ghost use Rattle.controller.specs.Prelude.{Verify, eqb, not};
+ghost use Rattle.image.specs.Inner.{Room};
+ghost use Rattle.reu.specs.Exports.{change_both};
+ghost use Rattle.reu.specs.Direct.{Short, byte_in, completed_in, remembered_in};
+
+use controller::Reu;
+use image::layout::IMAGE_BYTES;
+use image::{in_place, unpack};
+use transfer::{DmaState, Put, SwapPhase, TransferType};
+
+// ---- a byte of a transfer
+
+// The counters move, and are shown.
+#[inline(always)]
+#[tactic(auto, unfolding(transfer::specs::Dma::complete_byte), using(crate::proofs::Ways::moved_room))]
+fn complete(image: &mut [u8; IMAGE_BYTES], d: DmaState) -> u32
+    requires { Room d }
+    ensures { (result, image.new) ≡ completed_in image.old d }
+{
+    let done = d.complete_byte();
+    in_place::set_counters(image, done.dma);
+    in_place::set_transfer(image, done.dma);
+    1 + u32::from(done.passed)
+}
+
+// A byte of a store, a recall or a verify, or half a byte of a swap.
+#[inline(always)]
+fn byte(
+    image: &mut [u8; IMAGE_BYTES],
+    bus: &mut [u8],
+    storage: &mut [u8],
+    size: u32,
+    d: DmaState,
+    cycle: u64,
+) -> u32
+    requires { Room d }
+    ensures { (result, image.new, bus.new, storage.new) ≡ byte_in size d image.old bus.old storage.old cycle }
+{
+    match d.transfer_type {
+        TransferType::Store => {
+            let seen = d.seen(size, bus, storage);
+            Put::Storage(d.reu_addr, seen.bus).to_storage(size, storage);
+            complete(image, d)
+        }
+        TransferType::Recall => {
+            let latch = d.seen(size, bus, storage).storage;
+            Put::Bus(d.c64_addr, latch).to_bus(bus);
+            complete(image, DmaState { latch, ..d })
+        }
+        TransferType::Swap if d.swap_phase == SwapPhase::ReadC64 => {
+            let seen = d.seen(size, bus, storage);
+            Put::Storage(d.reu_addr, seen.bus).to_storage(size, storage);
+            in_place::set_transfer(image, d.latched(seen, cycle));
+            1
+        }
+        TransferType::Swap => {
+            Put::Bus(d.c64_addr, d.latch).to_bus(bus);
+            complete(image, d)
+        }
+        TransferType::Verify => complete(image, d),
+    }
+}
+
+// A verify whose bytes differ ends its command.
+#[inline(always)]
+fn differs(size: u32, d: DmaState, bus: &[u8], storage: &[u8]) -> bool
+    ensures { result ≡ is_type d.transfer_type Verify && not (eqb (bus_byte bus.now d.c64_addr) (storage_byte size storage.now d.reu_addr)) }
+{
+    let seen = d.seen(size, bus, storage);
+    (d.transfer_type == TransferType::Verify) & (seen.bus != seen.storage)
+}
+
+// ---- the cycle
+
+// BA's level at PHI1 and whether its fall came late are all that a cycle leaves that is not granted.
+#[inline(always)]
+fn remember(image: &mut [u8; IMAGE_BYTES], ba_high: bool, ba_high_phi1: bool)
+    ensures { image.new ≡ remembered_in image.old ba_high ba_high_phi1 }
+{
+    let reu = unpack::controller_at(image);
+    let next = Reu {
+        ba_was_high: ba_high_phi1,
+        late_ba_fall: ba_high_phi1 & !ba_high,
+        ..reu
+    };
+    in_place::set_flags(image, next);
+}
+
+// With no transfer.
+#[inline(always)]
+#[tactic(auto, using(crate::proofs::Ways::rest_way, crate::proofs::Families::bytes_of))]
+fn rest(
+    image: &mut [u8; IMAGE_BYTES],
+    bus: &[u8],
+    storage: &[u8],
+    ba_high: bool,
+    ba_high_phi1: bool,
+) -> Option<u32>
+    ensures { (n : ℕ) (low : Bool) → Short result (image.old, bus.now, storage.now) (image.new, bus.now, storage.now) (change_both (λ u b t. cycle_call u b t ba_high ba_high_phi1 n low) image.old bus.now storage.now) }
+{
+    if !in_place::rests(image, bus.len(), storage.len()) {
+        return None;
+    }
+    remember(image, ba_high, ba_high_phi1);
+    Some(0)
+}
+
+// With a transfer and BA as it was: with BA low the processor is held, and with BA high a byte is done.
+#[inline(always)]
+#[tactic(auto, using(crate::proofs::Ways::hold_way, crate::proofs::Ways::byte_way, crate::proofs::Families::bytes_of))]
+fn go_on(
+    image: &mut [u8; IMAGE_BYTES],
+    bus: &mut [u8],
+    storage: &mut [u8],
+    ba_high: bool,
+    ba_high_phi1: bool,
+    cycle: u64,
+) -> Option<u32>
+    ensures { (low : Bool) → Short result (image.old, bus.old, storage.old) (image.new, bus.new, storage.new) (change_both (λ u b t. cycle_call u b t ba_high ba_high_phi1 cycle low) image.old bus.old storage.old) }
+{
+    if !in_place::moves(image, bus.len(), storage.len()) {
+        return None;
+    }
+    let reu = unpack::controller_at(image);
+    if ba_high_phi1 != reu.ba_was_high {
+        return None;
+    }
+    if !ba_high_phi1 {
+        remember(image, ba_high, false);
+        return Some(1);
+    }
+    let d = unpack::transfer_at(image);
+    if (d.remaining == 1) || differs(reu.size, d, bus, storage) {
+        return None;
+    }
+    remember(image, ba_high, true);
+    in_place::set_granted(image, reu.granted_cycles.saturating_add(1));
+    Some(byte(image, bus, storage, reu.size, d, cycle))
+}
+
+// ---- the same of a slice, which has an image's length or goes the plain way
+
+#[inline(always)]
+pub(crate) fn resting_cycle(
+    image: &mut [u8],
+    bus: &[u8],
+    storage: &[u8],
+    ba_high: bool,
+    ba_high_phi1: bool,
+) -> Option<u32>
+    ensures { (n : ℕ) (low : Bool) → Short result (image.old, bus.now, storage.now) (image.new, bus.now, storage.now) (change_both (λ u b t. cycle_call u b t ba_high ba_high_phi1 n low) image.old bus.now storage.now) }
+{
+    let fields = image.as_mut_array::<IMAGE_BYTES>()?;
+    rest(fields, bus, storage, ba_high, ba_high_phi1)
+}
+
+#[inline(always)]
+pub(crate) fn moving_cycle(
+    image: &mut [u8],
+    bus: &mut [u8],
+    storage: &mut [u8],
+    ba_high: bool,
+    ba_high_phi1: bool,
+    cycle: u64,
+) -> Option<u32>
+    ensures { (low : Bool) → Short result (image.old, bus.old, storage.old) (image.new, bus.new, storage.new) (change_both (λ u b t. cycle_call u b t ba_high ba_high_phi1 cycle low) image.old bus.old storage.old) }
+{
+    let fields = image.as_mut_array::<IMAGE_BYTES>()?;
+    go_on(fields, bus, storage, ba_high, ba_high_phi1, cycle)
+}
