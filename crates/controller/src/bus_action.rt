@@ -38,6 +38,7 @@ impl Reu {
 
     // An immediate recall whose first byte meets a fall repeats its latch.
     #[tactic(auto, unfolding(crate::specs::BusAction::repeated))]
+    #[inline(always)]
     fn repeat(mut self, falling: bool) -> Reu
         ensures { result ≡ repeated self falling }
     {
@@ -62,6 +63,7 @@ impl Reu {
     }
 
     // The write half is given up: the storage has its byte again, and the read half comes next.
+    #[inline(always)]
     fn read_again(self) -> Reu
         ensures { result ≡ with_dma self (read_again self.dma) }
     {
@@ -78,6 +80,7 @@ impl Reu {
     }
 
     #[tactic(auto, unfolding(crate::specs::BusAction::fall_on_swap_write))]
+    #[inline(always)]
     fn fall_on_swap_write(mut self, late: bool) -> BusAnswer
         ensures { result ≡ fall_on_swap_write self late }
     {
@@ -94,6 +97,7 @@ impl Reu {
     }
 
     #[tactic(auto, unfolding(crate::specs::BusAction::fall_on_write))]
+    #[inline(always)]
     fn fall_on_write(self) -> BusAnswer
         ensures { result ≡ fall_on_write self }
     {
@@ -105,6 +109,7 @@ impl Reu {
 
     // BA falls: on a swap by its half, on another command by its next access.
     #[tactic(auto, unfolding(crate::specs::BusAction::fall))]
+    #[inline(always)]
     fn fall(self, late: bool) -> BusAnswer
         ensures { result ≡ fall self late }
     {
@@ -126,6 +131,7 @@ impl Reu {
 
     // The terminal pair, the delay, then the fall or the plain rule.
     #[tactic(auto, unfolding(crate::specs::BusAction::decide))]
+    #[inline(always)]
     fn decide(mut self, ba_high: bool, falling: bool, late: bool) -> BusAnswer
         ensures { result ≡ decide self ba_high falling late }
     {
@@ -155,6 +161,7 @@ impl Reu {
     }
 
     #[tactic(auto, unfolding(crate::specs::BusAction::next_action))]
+    #[inline(always)]
     pub(crate) fn next_action(self, ba_high: bool, ba_high_phi1: bool, cycle: u64) -> BusAnswer
         ensures { result ≡ next_action self ba_high ba_high_phi1 cycle }
     {

@@ -28,6 +28,7 @@ impl Reu {
 
     // STATUS and COMMAND say that the command has ended. The seven registers that Autoload loads are left to its stores.
     #[tactic(auto, unfolding(crate::specs::FinishDma::finish_dma))]
+    #[inline(always)]
     pub(crate) fn finish_dma(self, completed: bool) -> Reu
         ensures { result ≡ finish_dma self completed }
     {

@@ -6,6 +6,10 @@
 //
 // Bus and storage stay two arguments, as the C interface lends them: with a struct of two slices each contract would have one clause more, that it
 // still lends the same two. So do BA's inputs and the cycle: they come one by one from the C interface, as from the original's callers.
+//
+// `#[inline(always)]` stands above functions of the step, and above a register's write, which a host calls beside it. A controller by value is
+// passed in memory, and a chain of calls that is not made one function copies it at each border; a call that stays one keeps it in memory
+// around the calls too. It stands only where the compiler does not make one function by itself, as tools/count-step counts it.
 #![tactic(auto)]
 
 mod bus_action;

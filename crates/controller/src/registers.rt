@@ -109,6 +109,7 @@ impl Reu {
     // By the register's number, as its address has it. `as u16` drops nothing: what becomes of a shadow of 16 bits has
     // 16. By its two bytes there would be a second way beside the one that an expansion address takes.
     #[tactic(auto, unfolding(crate::specs::Registers::write_register))]
+    #[inline(always)]
     pub(crate) fn write_register(self, addr: u16, value: u8) -> Reu
         ensures { result ≡ write_register self addr value }
     {

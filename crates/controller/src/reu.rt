@@ -269,6 +269,7 @@ impl Reu {
     }
 
     #[tactic(auto, unfolding(crate::specs::Calls::write_call))]
+    #[inline(always)]
     pub fn write(self, addr: u16, value: u8) -> Result<Answered<u32>, Refusal>
         ensures { answer_of self result ≡ write_call self addr value }
     {

@@ -42,6 +42,7 @@ impl Reu {
     }
 
     // The controller with a running command.
+    #[inline(always)]
     pub(crate) fn running(self, state: DmaState) -> Reu
         ensures { result ≡ with_dma self (Some state) }
     {

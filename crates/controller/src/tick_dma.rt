@@ -46,6 +46,7 @@ impl Reu {
 
     // A command ends. With Autoload `self` has the registers as they were before the step: whoever makes the stores that are handed out
     // makes them on these.
+    #[inline(always)]
     fn ends(self, passed: Passed, d: DmaState, error: bool, completed: bool, put: Put) -> TickAnswer
         ensures { result ≡ ends self passed d error completed put }
     {
@@ -60,6 +61,7 @@ impl Reu {
 
     // A byte is done, with what was written for it: the counters move.
     #[tactic(auto, unfolding(crate::specs::TickDma::advance, transfer::specs::Dma::complete_byte))]
+    #[inline(always)]
     fn advance(self, d: DmaState, error: bool, ba_low: bool, put: Put) -> TickAnswer
         ensures { result ≡ advance self d error ba_low put }
     {
@@ -79,6 +81,7 @@ impl Reu {
     }
 
     // A tick that completes no byte, and so reports neither.
+    #[inline(always)]
     fn quiet_tick(self, flag: bool, put: Put) -> TickAnswer
         ensures { result ≡ quiet_tick flag self put }
     {
@@ -92,6 +95,7 @@ impl Reu {
     }
 
     #[tactic(auto, unfolding(crate::specs::TickDma::tick_store))]
+    #[inline(always)]
     fn tick_store(self, d: DmaState, seen: Seen, ba_low: bool) -> TickAnswer
         ensures { result ≡ tick_store self d seen ba_low }
     {
@@ -99,6 +103,7 @@ impl Reu {
     }
 
     #[tactic(auto, unfolding(crate::specs::TickDma::tick_recall))]
+    #[inline(always)]
     fn tick_recall(self, d: DmaState, seen: Seen, ba_low: bool) -> TickAnswer
         ensures { result ≡ tick_recall self d seen ba_low }
     {
@@ -112,6 +117,7 @@ impl Reu {
     }
 
     #[tactic(auto, unfolding(crate::specs::TickDma::swap_read))]
+    #[inline(always)]
     fn swap_read(self, d: DmaState, seen: Seen, cycle: u64) -> TickAnswer
         ensures { result ≡ swap_read self d seen cycle }
     {
@@ -120,6 +126,7 @@ impl Reu {
     }
 
     #[tactic(auto, unfolding(crate::specs::TickDma::swap_write))]
+    #[inline(always)]
     fn swap_write(self, d: DmaState, ba_low: bool) -> TickAnswer
         ensures { result ≡ swap_write self d ba_low }
     {
@@ -127,6 +134,7 @@ impl Reu {
     }
 
     #[tactic(auto, unfolding(crate::specs::TickDma::tick_swap))]
+    #[inline(always)]
     fn tick_swap(self, d: DmaState, seen: Seen, cycle: u64, ba_low: bool) -> TickAnswer
         ensures { result ≡ tick_swap d.swap_phase self d seen cycle ba_low }
     {
@@ -137,6 +145,7 @@ impl Reu {
     }
 
     #[tactic(auto, unfolding(crate::specs::TickDma::tick_verify))]
+    #[inline(always)]
     fn tick_verify(self, d: DmaState, seen: Seen, ba_low: bool) -> TickAnswer
         ensures { result ≡ tick_verify self d seen ba_low }
     {
@@ -145,6 +154,7 @@ impl Reu {
     }
 
     #[tactic(auto, unfolding(crate::specs::TickDma::tick_refresh))]
+    #[inline(always)]
     fn tick_refresh(self, d: DmaState, seen: Seen, cycle: u64) -> TickAnswer
         ensures { result ≡ tick_refresh self d seen cycle }
     {
@@ -161,6 +171,7 @@ impl Reu {
     }
 
     #[tactic(auto, unfolding(crate::specs::TickDma::tick_tail))]
+    #[inline(always)]
     fn tick_tail(self, d: DmaState, seen: Seen) -> TickAnswer
         ensures { result ≡ tick_tail self d seen }
     {
@@ -169,6 +180,7 @@ impl Reu {
     }
 
     #[tactic(auto, unfolding(crate::specs::TickDma::tick_by_type))]
+    #[inline(always)]
     fn tick_by_type(self, d: DmaState, seen: Seen, cycle: u64, ba_low: bool) -> TickAnswer
         ensures { result ≡ tick_by_type d.transfer_type self d seen cycle ba_low }
     {
@@ -181,6 +193,7 @@ impl Reu {
     }
 
     #[tactic(auto, unfolding(crate::specs::TickDma::tick_running))]
+    #[inline(always)]
     fn tick_running(self, d: DmaState, seen: Seen, cycle: u64, ba_low: bool) -> TickAnswer
         ensures { result ≡ tick_running self d seen cycle ba_low }
     {

@@ -141,6 +141,7 @@ fn left_after(remaining: u32) -> u32
 impl DmaState {
     // The only place where the counters move.
     #[tactic(auto, unfolding(crate::specs::Dma::complete_byte))]
+    #[inline(always)]
     pub fn complete_byte(self) -> Completed
         ensures { result ≡ complete_byte self }
     {
