@@ -6,6 +6,7 @@ use crate::granted::{AtTop, count_of};
 use crate::passed::{AtTops, parted};
 use crate::sides::{Image, Machine, places};
 use crate::sizes::{AtSizes, BLANK, SIZES, size_of};
+use crate::taken::{OFTEN, Taken};
 use reu::IMAGE_GRANTED_CYCLES;
 use std::panic::{AssertUnwindSafe, catch_unwind};
 
@@ -16,7 +17,8 @@ const LONG_LIST: usize = 140_000;
 /// One list in so many is long.
 const LONG_EVERY: u64 = 400;
 /// A run of so many calls must have been at the top of the count of granted cycles, at the tops of both addresses in all the
-/// ways that are counted, and at each size in all of those; the gate's runs are as long.
+/// ways that are counted, and at each size in all of those, and must have taken each short way and the plain one there; the
+/// gate's runs are as long.
 pub const FULL_RUN: u64 = 5_000_000;
 /// Whole memories are compared at the end of a list and after so many steps.
 const WHOLE_EVERY: usize = 16_384;
@@ -150,13 +152,14 @@ pub struct Run {
     pub at_top: AtTop,
     pub at_tops: AtTops,
     pub at_sizes: AtSizes,
+    pub taken: Taken,
     seed: u64,
 }
 
 impl Run {
     pub fn new(seed: u64) -> Self {
-        let (at_top, at_tops, at_sizes) = Default::default();
-        Self { calls: 0, lists: 0, at_top, at_tops, at_sizes, seed }
+        let (at_top, at_tops, at_sizes, taken) = Default::default();
+        Self { calls: 0, lists: 0, at_top, at_tops, at_sizes, taken, seed }
     }
 
     /// Compares at least `calls` further calls.
@@ -201,6 +204,17 @@ impl Run {
         }
     }
 
+    /// An error if the run is a full one and has not taken each of the short ways, and the plain one, often at each size.
+    pub fn has_taken_all_ways(&self) -> Result<(), String> {
+        match self.taken.missing(OFTEN) {
+            missing if self.calls < FULL_RUN || missing.is_empty() => Ok(()),
+            missing => Err(format!(
+                "compare: so long a run must take each way {OFTEN} times at each size; rarer: {}",
+                missing.join(", ")
+            )),
+        }
+    }
+
     /// One list: from new, with full lengths, or from any accepted images, by its number. Its size is set first.
     fn list(&mut self, pair: &mut Pair, seed: u64, steps: &mut Vec<Step>) -> Result<(), String> {
         let long = self.lists % LONG_EVERY == LONG_EVERY / 2;
@@ -208,7 +222,8 @@ impl Run {
         let kind = (self.lists / LONG_EVERY % 4) as u8;
         let mut generator = if long { Generator::long(seed, kind) } else { Generator::new(seed) };
         let (calls, at_top, at_tops) = (&mut self.calls, &mut self.at_top, &mut self.at_tops);
-        let mut steps = Kept { steps, calls, at_top, at_tops, at_sizes: &mut self.at_sizes };
+        let (at_sizes, taken) = (&mut self.at_sizes, &mut self.taken);
+        let mut steps = Kept { steps, calls, at_top, at_tops, at_sizes, taken };
         let [new, set] = [Call::New, Call::SetSize { size: generator.size() as u64 }].map(Step::Call);
         for start in [Step::Image(BLANK), Step::Memory(generator.seed()), new, set] {
             steps.step(pair, start)?;
@@ -229,13 +244,14 @@ impl Run {
 }
 
 /// Keeps each step before it is done, and counts the calls among them, those at the top of the count, those at the tops of
-/// the addresses, and those at each size.
+/// the addresses, those at each size, and those on each of the ways.
 struct Kept<'a> {
     steps: &'a mut Vec<Step>,
     calls: &'a mut u64,
     at_top: &'a mut AtTop,
     at_tops: &'a mut AtTops,
     at_sizes: &'a mut AtSizes,
+    taken: &'a mut Taken,
 }
 
 impl Kept<'_> {
@@ -246,6 +262,7 @@ impl Kept<'_> {
             self.at_top.look(pair.right, call);
             self.at_tops.look(pair.right, call);
             self.at_sizes.look(pair.right, call);
+            self.taken.look(pair.right, call);
         }
         pair.step(step)
     }

@@ -21,9 +21,11 @@ pub mod remaining;
 pub mod rng;
 pub mod screen;
 pub mod sessions;
+pub mod short;
 pub mod shrink;
 pub mod sides;
 pub mod sizes;
+pub mod taken;
 
 /// The seed of what must be the same each time: the recorded list and the planted bugs. A run draws its own.
 pub const SEED: u64 = 8726;

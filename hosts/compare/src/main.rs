@@ -158,8 +158,14 @@ mod with_original {
             println!("compare: {reached} granted cycles brought the count to its top, {held} came when it was there");
             println!("compare: calls at the tops of the addresses: {}", run.at_tops.told());
             run.at_sizes.told().iter().for_each(|line| println!("compare: {line}"));
+            let (cycles, short) = run.taken.cycles();
+            println!(
+                "compare: {short} of {cycles} cycles are on a short way by its conditions, the others on the plain one"
+            );
+            run.taken.told().iter().for_each(|line| println!("compare: {line}"));
             println!("compare: below {} bytes there is no original: it ran on a storage of repeats", SIZES[0]);
-            return run.has_met_the_top().and(run.has_met_the_tops()).and(run.has_met_the_sizes());
+            let met = run.has_met_the_top().and(run.has_met_the_tops()).and(run.has_met_the_sizes());
+            return met.and(run.has_taken_all_ways());
         };
         let disagree = format!("compare: the library and the original disagree after {calls} calls: {}", found.what);
         Err(format!("{disagree}\n{}", short(&mut pair, *found, bug)))

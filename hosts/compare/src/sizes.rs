@@ -65,7 +65,7 @@ pub fn has_mark(image: &[u8], size: usize) -> bool {
 }
 
 /// The place of a size among the three, which is its code.
-fn place(size: usize) -> usize {
+pub fn place(size: usize) -> usize {
     SIZES.iter().position(|known| *known == size).expect("one of the three sizes")
 }
 

@@ -12,10 +12,12 @@ use compare::record::replay;
 use compare::refusals::{Refusals, Refuser};
 use compare::rng::{Rng, noise};
 use compare::screen::{self, Met, Pace, Rule, Sides};
-use compare::sides::{BUS, Held, Lent, Port, STORAGE};
+use compare::short::{Way, way};
+use compare::sides::{BUS, Held, Image, Lent, Port, STORAGE};
 use compare::sizes::{AtSizes, BLANK, size_of};
+use compare::taken::{OFTEN, Taken};
 use compare::{SEED, demand3, remaining};
-use reu::{IMAGE_LATCH, IMAGE_REMAINING, IMAGE_TYPE};
+use reu::*;
 use std::cell::RefCell;
 use std::collections::HashSet;
 use std::io::{BufRead, BufReader};
@@ -104,16 +106,123 @@ fn a_full_run_must_have_met_all_that_is_counted_at_each_size() {
     }
 }
 
+#[test]
+fn a_full_run_must_have_taken_each_way_at_each_size() {
+    let met = |calls, counts| {
+        let mut run = Run::new(SEED);
+        (run.calls, run.taken) = (calls, Taken(counts));
+        run.has_taken_all_ways().is_ok()
+    };
+    assert!(met(FULL_RUN, [[OFTEN; 12]; 3]) && met(FULL_RUN - 1, [[0; 12]; 3]));
+    for (size, at) in (0..3).flat_map(|size| (0..12).map(move |at| (size, at))) {
+        let mut counts = [[2 * OFTEN; 12]; 3];
+        counts[size][at] = OFTEN - 1;
+        assert!(!met(FULL_RUN, counts), "{size} {at}");
+    }
+}
+
 /// Far fewer calls than a full run has already met it all; at least one in ten is at each of the smaller sizes.
 #[test]
 fn lists_come_with_each_size() {
     let (mut tried, mut right) = (Held::new(Library), Held::new(Library));
     let mut run = Run::new(SEED);
     assert!(run.compare(&mut Pair { tried: &mut tried, right: &mut right }, FULL_RUN / 10).is_ok());
-    assert_eq!(run.at_sizes.missing(), Vec::<String>::new());
+    assert_eq!((run.at_sizes.missing(), run.taken.missing(OFTEN / 10)), Default::default());
     let calls = run.at_sizes.0.map(|met| met[0]);
     assert_eq!(calls.iter().sum::<u64>(), run.calls);
     assert!(calls[0] > run.calls / 2 && calls[1].min(calls[2]) > run.calls / 10, "{calls:?}");
+}
+
+/// A cycle of a running transfer, with BA at PHI1 before and now. The byte at the place of the transfer is 0 on both sides.
+fn cycle_with(kind: u8, before: bool, now: bool) -> (Call, Image) {
+    let mut image = BLANK;
+    image[IMAGE_FLAGS] = FLAG_ATTACHED | if before { FLAG_BA_WAS_HIGH } else { 0 };
+    (image[IMAGE_TRANSFER], image[IMAGE_TYPE]) = (1, kind);
+    (Call::RunReuCycle { ba_high: 0, cycle: 0, ba_low: 1, ba_high_phi1: 8 * u32::from(now) }, image)
+}
+
+/// Which way a call on an image takes, where the two bytes are equal and where they differ.
+fn ways_of((call, image): (Call, Image)) -> [Option<Way>; 2] {
+    let (bus, storage) = (vec![0; BUS], vec![0; STORAGE]);
+    [way(call, &image, &bus, &storage), way(call, &image, &[1; BUS], &storage)]
+}
+
+#[test]
+fn each_cycle_takes_its_way() {
+    let all = |way| [Some(way), Some(way)];
+    let mut writes = cycle_with(SWAP, true, true);
+    writes.1[IMAGE_PHASE] = 1;
+    assert!(ways_of(writes) == all(Way::SwapWrite));
+    for (kind, way) in [(STORE, Way::Store), (RECALL, Way::Recall), (SWAP, Way::SwapRead)] {
+        assert!(ways_of(cycle_with(kind, true, true)) == all(way));
+    }
+    assert!(ways_of(cycle_with(VERIFY, true, true)) == [Some(Way::Verify), None]);
+    for (kind, before) in [STORE, RECALL, SWAP, VERIFY].into_iter().flat_map(|kind| [(kind, false), (kind, true)]) {
+        assert!(ways_of(cycle_with(kind, before, !before)) == [None; 2]);
+        assert!(ways_of(cycle_with(kind, false, false)) == all(Way::Hold));
+        let (call, mut image) = cycle_with(kind, before, kind == STORE);
+        image[IMAGE_TRANSFER..].fill(0);
+        assert!(ways_of((call, image)) == all(Way::Idle));
+    }
+}
+
+/// What keeps a byte from its short way, a Hold and an idle cycle: only a delay and a terminal pair keep the last two.
+#[test]
+fn what_is_to_be_waited_for_takes_no_short_way() {
+    let laid = [
+        (IMAGE_DELAY, 1, true),
+        (IMAGE_DELAY, 2, true),
+        (IMAGE_FLAGS, FLAG_TERMINAL_WRITE, true),
+        (IMAGE_FLAGS, FLAG_RECALL_REPEAT, false),
+        (IMAGE_MORE_FLAGS, FLAG_REFRESH, false),
+        (IMAGE_TRANSFER_FLAGS, TRANSFER_TAIL, false),
+        (IMAGE_REMAINING, 1, false),
+    ];
+    for (place, byte, always) in laid {
+        let with = |(call, mut image): (Call, Image), runs| {
+            (image[IMAGE_TRANSFER], image[place]) = (runs, image[place] | byte);
+            ways_of((call, image))[0]
+        };
+        assert!(with(cycle_with(STORE, true, true), 1).is_none(), "{place} {byte}");
+        assert!(with(cycle_with(STORE, false, false), 1).is_none() == always, "{place} {byte}");
+        assert!(with(cycle_with(STORE, true, false), 0).is_none() == always, "{place} {byte}");
+    }
+    let (call, mut image) = cycle_with(STORE, true, true);
+    image[IMAGE_REMAINING..IMAGE_LATCH].copy_from_slice(&[1, 1]);
+    assert!(ways_of((call, image))[0] == Some(Way::Store));
+}
+
+#[test]
+fn of_the_other_calls_reads_looks_and_writes_that_start_nothing_take_a_short_way() {
+    let image = cycle_with(SWAP, true, true).1;
+    let looks = [
+        Call::DebugRegister { index: 99 },
+        Call::DmaActive,
+        Call::C64Access,
+        Call::StoragePresent,
+        Call::CapacityBytes,
+    ];
+    assert!(looks.into_iter().all(|call| ways_of((call, image))[0] == Some(Way::Look)));
+    for (addr, value) in
+        (0..=u8::MAX).flat_map(|addr| [0, 0x10, 0x6F, 0x80, 0x83, 0x90, 0xFF].map(|value| (addr, value)))
+    {
+        let addr = 0xDF00 + u16::from(addr);
+        let starts = [0xDF01, 0xDF21, 0xDF41, 0xDF61, 0xDF81, 0xDFA1, 0xDFC1, 0xDFE1].contains(&addr) && value >= 0x90;
+        let writes = ways_of((Call::Write { addr, value }, image))[0] == Some(Way::Write);
+        assert!(writes != starts, "{addr:x} {value:x}");
+        assert!(ways_of((Call::Read { addr }, image))[0] == Some(Way::Read));
+    }
+    let others = [
+        Call::New,
+        Call::Reset { hard_reset: 0 },
+        Call::SetEnabled { enabled: 1 },
+        Call::TriggerFf00,
+        Call::CpuReadyAfterDma { ba_high: 1 },
+        Call::BusAction { ba_high: 1, ba_high_phi1: 1, cycle: 0 },
+        Call::TickDma { cycle: 0, ba_low: 0 },
+        Call::SetSize { size: 131_072 },
+    ];
+    assert!(others.into_iter().all(|call| ways_of((call, image)) == [None; 2]));
 }
 
 /// The record is the original's, which has one size: no line sets another, and no image has one.
@@ -380,7 +489,6 @@ mod with_original {
     use compare::shrink::{begin, shorten};
     use compare::sides::Machine;
     use compare::sizes;
-    use reu::{RECALL, STORE};
 
     /// How the program says that it is run.
     const CARGO: &str = "cargo run --release --manifest-path hosts/Cargo.toml -p compare --";
