@@ -1,6 +1,6 @@
 // The planted bugs: each is an edit of a text that a copy of the original is made of, or two where it takes two. Before
 // that, each copy is given what the original has not, by edits too: the count of granted cycles, the marks of an address
-// that passes its top, and a size that can be set.
+// that passes its top, and a size that can be set; and short ways in front of it, if the bug stands in these.
 
 /// `old` stands exactly once in `file` and is replaced by `new`.
 #[allow(dead_code)] // The build script reads it.
@@ -174,6 +174,18 @@ pub const SIZE: &[Edit] = &[
         new: "    pub fn set_size(&mut self, size: u64) -> u32 {
         self.memory.reu.set_size(size as usize);
         0\n    }\n\n    pub fn storage_present(&self) -> u32 {" },
+];
+
+/// Short ways in front of the original's text (`planted/ways.rs`, by the conditions in `src/short.rs`): what they answer never
+/// comes to it. Only a copy whose bug stands in them has them; in another they would hide its bug.
+#[allow(dead_code)] // The build script reads it.
+#[rustfmt::skip]
+pub const SHORT: &[Edit] = &[
+    Edit { file: "standin",
+        old: "    let image = image.first_chunk_mut()",
+        new: "    let lent = Lent { image: &mut *image, bus: &mut *bus, storage: &mut *storage };
+    if let Some(answer) = super::ways::answer(call, lent) { return answer; }
+    let image = image.first_chunk_mut()" },
 ];
 
 #[rustfmt::skip]
@@ -936,4 +948,104 @@ pub const PLANTED: &[Planted] = &[
     edit("bit 7 of the second byte of flags is taken", "accepted",
         "image[IMAGE_MORE_FLAGS] <= 0x0F",
         "image[IMAGE_MORE_FLAGS] & 0x7F <= 0x0F"),
+
+    // The short ways: where they are taken. A condition too wide answers by the bytes what takes more than these.
+    edit("a delay does not keep a cycle from a short way", "short", "delay != 0 || flags", "flags"),
+    edit("a terminal pair does not keep a cycle from a short way", "short",
+        "delay != 0 || flags & FLAG_TERMINAL_WRITE != 0",
+        "delay != 0"),
+    edit("a fall is taken for a Hold", "short",
+        "steady(image, false, ba_high_phi1)",
+        "ba_high_phi1 == false"),
+    edit("a byte is moved where BA rises", "short", "steady(image, true, ba_high_phi1)", "ba_high_phi1"),
+    edit("a recall's short way never repeats its byte", "short", "image[IMAGE_FLAGS] & FLAG_RECALL_REPEAT == 0", "true"),
+    edit("a swap's short way never refreshes", "short", "image[IMAGE_MORE_FLAGS] & FLAG_REFRESH == 0", "true"),
+    edit("the last byte is moved like any other", "short", "remaining(image) != 1", "true"),
+    edit("a verify's short way does not look at the bytes", "short", "(image[IMAGE_TYPE] != VERIFY || equal)", "true"),
+    edit("a write of COMMAND that starts is taken for one that arms", "short", "addr & 0x1F == COMMAND &&", "false &&"),
+
+    // What they do with BA, where nothing else is done.
+    edit("an idle cycle does not keep BA", "ways",
+        "history(image, ba_high, ba_high_phi1);",
+        "let kept = image[IMAGE_FLAGS] & FLAG_BA_WAS_HIGH != 0;
+         history(image, ba_high, ba_high_phi1);
+         if way == Way::Idle { flag(&mut image[IMAGE_FLAGS], FLAG_BA_WAS_HIGH, kept); }"),
+    edit("an idle cycle does not keep a late fall", "ways",
+        "history(image, ba_high, ba_high_phi1);",
+        "history(image, ba_high, ba_high_phi1);
+         if way == Way::Idle { flag(&mut image[IMAGE_FLAGS], FLAG_LATE_FALL, false); }"),
+    edit("a Hold leaves the late fall", "ways",
+        "history(image, ba_high, ba_high_phi1);",
+        "let kept = image[IMAGE_FLAGS] & FLAG_LATE_FALL != 0;
+         history(image, ba_high, ba_high_phi1);
+         if way == Way::Hold { flag(&mut image[IMAGE_FLAGS], FLAG_LATE_FALL, kept); }"),
+    edit("the read half of a swap does not keep a late fall", "ways",
+        "history(image, ba_high, ba_high_phi1);",
+        "history(image, ba_high, ba_high_phi1);
+         if way == Way::SwapRead { flag(&mut image[IMAGE_FLAGS], FLAG_LATE_FALL, false); }"),
+
+    // A byte.
+    edit("a byte on the short way is not counted", "ways", "count.saturating_add(1));", "count);"),
+    edit("the count does not carry out of its low byte", "ways",
+        "set_number(&mut image[IMAGE_GRANTED_CYCLES..], count.saturating_add(1));",
+        "if count != u32::MAX { image[IMAGE_GRANTED_CYCLES] = image[IMAGE_GRANTED_CYCLES].wrapping_add(1); }"),
+    edit("the short way gives no mark for the C64 address", "ways", "marks += PASSED_C64;", ""),
+    edit("the short way gives no mark for the expansion address", "ways", "marks += PASSED_EXPANSION;", ""),
+    edit("the low byte of the C64 address is not shown", "ways",
+        "image.copy_within(IMAGE_C64_ADDRESS..IMAGE_LATCH, register(C64_ADDRESS_LOW));",
+        "image.copy_within(IMAGE_C64_ADDRESS + 1..IMAGE_LATCH, register(C64_ADDRESS_HIGH));"),
+    edit("the bank is not shown", "ways",
+        "image.copy_within(IMAGE_C64_ADDRESS..IMAGE_LATCH, register(C64_ADDRESS_LOW));",
+        "let bank = image[register(EXPANSION_ADDRESS_BANK)];
+         image.copy_within(IMAGE_C64_ADDRESS..IMAGE_LATCH, register(C64_ADDRESS_LOW));
+         image[register(EXPANSION_ADDRESS_BANK)] = bank;"),
+    edit("a byte moves the shadow of the C64 address too", "ways",
+        "image.copy_within(IMAGE_C64_ADDRESS..IMAGE_LATCH, register(C64_ADDRESS_LOW));",
+        "image.copy_within(IMAGE_C64_ADDRESS..IMAGE_LATCH, register(C64_ADDRESS_LOW));
+         image.copy_within(IMAGE_C64_ADDRESS..IMAGE_EXPANSION_ADDRESS, IMAGE_SHADOW_C64);"),
+    edit("an address does not carry out of its low byte", "ways",
+        "let next = number(field) as u32 + 1;",
+        "let next = number(&field[1..]) as u32 * 256 + (number(&field[..1]) as u32 + 1) % 256;"),
+    edit("remaining does not borrow from its high byte", "ways",
+        "left.wrapping_sub(1));",
+        "left / 256 * 256 + left.wrapping_sub(1) % 256);"),
+    edit("65,536 is stepped down like 65,535", "ways", "left.wrapping_sub(1));", "(if left == 0 { 65_535 } else { left }) - 1);"),
+    edit("a byte on the short way stays the first", "ways", "flags & !TRANSFER_FIRST_BYTE;", "flags;"),
+    edit("a recall's short way leaves the latch", "ways", "image[IMAGE_LATCH] = storage[offset];\n", ""),
+    edit("the read half of a swap leaves the latch", "ways",
+        "(image[IMAGE_LATCH], storage[offset]) = (storage[offset], bus[addr]);",
+        "storage[offset] = bus[addr];"),
+    edit("the read half of a swap leaves the phase", "ways", "image[IMAGE_PHASE] = 1;", ""),
+    edit("the write half of a swap leaves the phase", "ways", "image[IMAGE_PHASE] = 0;", ""),
+    edit("the read half of a swap leaves the parity", "ways",
+        "flag(&mut image[IMAGE_TRANSFER_FLAGS], TRANSFER_ODD_PARITY, cycle & 1 != 0);", ""),
+    edit("the short way folds 128 KiB like 256", "ways",
+        "& (size(image) - 1);",
+        "& (size(image).max(SIZE_256K) - 1); let offset = offset.min(size(image) - 1);"),
+    edit("the short way folds 256 KiB like 128", "ways",
+        "& (size(image) - 1);",
+        "& if size(image) == SIZE_256K { SIZE_128K - 1 } else { size(image) - 1 };"),
+
+    // Looks, reads, and writes that start nothing: what is told from another byte than the one that says it.
+    edit("a transfer is told from bit 7 of COMMAND", "ways",
+        "Call::DmaActive => image[IMAGE_TRANSFER].into()",
+        "Call::DmaActive => (image[register(COMMAND)] >> 7).into()"),
+    edit("the access is told from the address that is shown", "ways",
+        "65_536 * kind + number(&image[IMAGE_C64_ADDRESS..IMAGE_EXPANSION_ADDRESS])",
+        "65_536 * kind + number(&image[register(C64_ADDRESS_LOW)..=register(C64_ADDRESS_HIGH)])"),
+    edit("a STATUS read without bit 7 leaves the interrupt level", "ways",
+        "flag(&mut image[IMAGE_FLAGS], FLAG_INTERRUPT, false);",
+        "if held & STATUS_IRQ_PENDING != 0 { flag(&mut image[IMAGE_FLAGS], FLAG_INTERRUPT, false); }"),
+    edit("a STATUS read in a transfer leaves the interrupt level", "ways",
+        "flag(&mut image[IMAGE_FLAGS], FLAG_INTERRUPT, false);",
+        "if image[IMAGE_TRANSFER] == 0 { flag(&mut image[IMAGE_FLAGS], FLAG_INTERRUPT, false); }"),
+    edit("a bank write is plain where it is shown and in its shadow", "ways", "let value = value | 0xF8;", ""),
+    edit("a write of one byte of two shows that byte alone", "ways",
+        "image.copy_within(shadow..shadow + 2, register(low));",
+        "image[register(index)] = value;"),
+    edit("a write of COMMAND that arms leaves the flag", "ways",
+        "flag(&mut image[IMAGE_FLAGS], FLAG_ARMED, value & COMMAND_EXECUTE != 0);",
+        "flag(&mut image[IMAGE_FLAGS], FLAG_ARMED, false);"),
+    edit("a mask write raises the level and leaves STATUS bit 7", "ways",
+        "image[register(STATUS)] |= STATUS_IRQ_PENDING;", ""),
 ];

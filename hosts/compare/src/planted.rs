@@ -9,7 +9,7 @@ mod table;
 use crate::accepted::accepted;
 use crate::calls::Call;
 use crate::compare::{Pair, Run, caught_by};
-use crate::copies::{COPIES, CallOn};
+use crate::copies::{COPIES, CallOn, SHORT};
 use crate::reference::Original;
 use crate::refusals::Refusals;
 use crate::remaining::EARLIER;
@@ -236,15 +236,17 @@ pub fn standin(number: usize) -> Option<Standin> {
     }
 }
 
-/// Tries every planted bug, and the stand-in without one, which must not be caught.
+/// Tries every planted bug, and the two stand-ins without one, plain and with short ways, which must not be caught.
 pub fn run() -> bool {
     let (seed, demand3) = (crate::SEED, DEMAND3_SEEDS);
     println!("compare: --planted, from seed {seed} (demand 3 from {demand3:?}), the same each time");
     std::panic::set_hook(Box::new(|_| {}));
     let mut good = true;
-    if let Some(how) = how_caught(COPIES[0], Breaks::Anything) {
-        println!("the stand-in without a bug is caught: {how}");
-        good = false;
+    for (what, right) in [("", COPIES[0]), (" with short ways", SHORT)] {
+        if let Some(how) = how_caught(right, Breaks::Anything) {
+            println!("the stand-in{what} and without a bug is caught: {how}");
+            good = false;
+        }
     }
     let bugs = bugs();
     let mut caught = 0;
