@@ -242,9 +242,9 @@ pub fn run() -> bool {
     println!("compare: --planted, from seed {seed} (demand 3 from {demand3:?}), the same each time");
     std::panic::set_hook(Box::new(|_| {}));
     let mut good = true;
-    for (what, right) in [("", COPIES[0]), (" with short ways", SHORT)] {
+    for (what, right) in [("plain stand-in", COPIES[0]), ("stand-in with short ways", SHORT)] {
         if let Some(how) = how_caught(right, Breaks::Anything) {
-            println!("the stand-in{what} and without a bug is caught: {how}");
+            println!("the {what} is caught though it has no bug: {how}");
             good = false;
         }
     }
