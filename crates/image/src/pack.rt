@@ -21,6 +21,7 @@ use transfer::{
 
 // ---- the bytes of a field from its place on, the low byte of a number first. How many they are says where it ends, and that has to be
 // within the image. A type of places would be no plainer: it would carry the width with it, and the code has the width as N.
+#[inline(always)]
 pub(crate) fn put<const N: usize>(out: &mut [u8; IMAGE_BYTES], place: usize, bytes: [u8; N])
     requires { place + N ≤ image_size }
     ensures { out.new ≡ sets out.old place bytes.entry }
@@ -50,6 +51,7 @@ pub(crate) fn remaining(left: u32) -> [u8; 2]
 // Each flag stands beside its bit. A fold over a list of flags would leave the bits to be counted.
 
 #[tactic(auto, using(crate::proofs::Flags::byte_is_bit))]
+#[inline(always)]
 pub(crate) fn flags(r: Reu) -> u8
     ensures { result ≡ flags_of (flag_bits r) }
 {
@@ -81,6 +83,7 @@ fn more_flags(r: Reu) -> u8
     u8::from(r.swap_refresh) + 2 * u8::from(r.swap_release_pending) + 4 * size_code(r.size)
 }
 
+#[inline(always)]
 fn options(d: DmaState) -> u8
     ensures { result ≡ flags_of (option_bits d) }
 {
@@ -117,6 +120,7 @@ fn transfer_of(m: Option<DmaState>) -> DmaState
 }
 
 // ---- the fields at their places
+#[inline(always)]
 pub(crate) fn put_transfer(out: &mut [u8; IMAGE_BYTES], d: DmaState)
     requires { Room d }
     ensures { out.new ≡ sets out.old (place_of kind) (laid transfer_part (transfer_numbers (Some d))) }

@@ -66,6 +66,7 @@ fn size_of(code: u8) -> u32
 
 // ---- the controller. Each flag stands beside its bit, as in `pack`
 #[tactic(auto, using(crate::proofs::ByBytes::transfer_listed))]
+#[inline(always)]
 pub fn transfer_at(image: &[u8; IMAGE_BYTES]) -> DmaState
     ensures { result ≡ transfer_of (lifted fields image.now) }
 {
@@ -91,6 +92,7 @@ pub fn transfer_at(image: &[u8; IMAGE_BYTES]) -> DmaState
     }
 }
 
+#[inline(always)]
 fn dma_at(image: &[u8; IMAGE_BYTES]) -> Option<DmaState>
     ensures { result ≡ dma_in (lifted fields image.now) }
 {
@@ -101,6 +103,7 @@ fn dma_at(image: &[u8; IMAGE_BYTES]) -> Option<DmaState>
     }
 }
 
+#[inline(always)]
 pub fn controller_at(image: &[u8; IMAGE_BYTES]) -> Reu
     ensures { result ≡ reu_at image.now }
 {

@@ -72,8 +72,11 @@ fn byte(
 fn differs(size: u32, d: DmaState, bus: &[u8], storage: &[u8]) -> bool
     ensures { result ≡ is_type d.transfer_type Verify && not (eqb (bus_byte bus.now d.c64_addr) (storage_byte size storage.now d.reu_addr)) }
 {
+    if d.transfer_type != TransferType::Verify {
+        return false;
+    }
     let seen = d.seen(size, bus, storage);
-    (d.transfer_type == TransferType::Verify) & (seen.bus != seen.storage)
+    seen.bus != seen.storage
 }
 
 // ---- the cycle
