@@ -12,7 +12,7 @@ use transfer::{Put, ReuBusAction, ReuC64Access, action_for_cycle, c64_access};
 
 impl Reu {
     #[tactic(auto, unfolding(crate::specs::Timing::c64_access))]
-    pub(crate) fn next_access(self) -> ReuC64Access
+    pub fn next_access(self) -> ReuC64Access
         ensures { result ≡ c64_access self }
     {
         c64_access(self.dma, self.swap_refresh)

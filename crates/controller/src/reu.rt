@@ -200,7 +200,7 @@ impl Reu {
 }
 
 impl Reu {
-    fn capacity(self) -> u32
+    pub fn capacity(self) -> u32
         ensures { result ≡ capacity self }
     {
         if self.attached { self.size } else { 0 }

@@ -1,6 +1,6 @@
 -- What a call of each family is, by what opening the image i gave: a refusal, or a controller u.
 use Rattle.std.proofs.Common.{◌≡◌, ℕ, true, false, List, length, sym, ap, ap₂, ◌∙◌, subst, refl, arith, eqb, eqb-true, ne_eqb, Bool, cond, Fits, w8}
-use borrow.Author.Tests.{eqb-false}
+use borrow.Author.Tests.{eqb-false, eq-eqb}
 use Rattle.controller.specs.Enable.{new_reu}
 use Rattle.image.specs.Open.{store_image}
 use Rattle.image.proofs.Opening.{store_good, store_other}
@@ -13,17 +13,18 @@ use Rattle.controller.specs.declared.reu.Step.{Step}
 use Rattle.controller.specs.declared.reu.Reu.{Reu}
 use Rattle.controller.specs.Answers.{Answer, refusal_number, answer_of, step_answer_of}
 use Rattle.controller.specs.TickDma.{Ticked}
-use Rattle.controller.specs.Calls.{numbered}
+use Rattle.controller.specs.Calls.{answered, call, numbered, refused}
 use Rattle.controller.proofs.Checked.{done, not_done, refusal_some}
-use Rattle.image.specs.Open.{Opened, opened, open_image}
+use Rattle.image.specs.Open.{Opened, bytes_ok, image_ok, opened, open_image}
 use Rattle.image.specs.Valid.{Bytes, Typed}
-use Rattle.image.proofs.Opening.{opened_long, opened_is}
+use Rattle.image.proofs.Fields.{and_right}
+use Rattle.image.proofs.Opening.{opened_long, opened_is, opened_ok}
 use Rattle.image.proofs.Sound.{Sound}
 use Rattle.image.proofs.Valid.{open_sound, sound_typed, sound_well}
-use Rattle.image.specs.Layout.{image_size, pack_image}
+use Rattle.image.specs.Layout.{image_size, pack_image, reu_at}
 use Rattle.reu.specs.Exports.{refusal, reu_new, code, image_after, changed, changed_storage, changed_both, look, change, change_storage, change_both}
-use Rattle.controller.specs.Refusals.{well_formed}
-use Rattle.reu.specs.Inner.{value_of, ended, Kept, Left}
+use Rattle.controller.specs.Refusals.{checked, refusal_of, well_formed}
+use Rattle.reu.specs.Inner.{ended, Kept, Left}
 use Rattle.reu.specs.Logged.{logged, logged_both, stores_by}
 
 -- the bytes of a slice are bytes
@@ -63,22 +64,20 @@ module _ (i : List ℕ) where
     accepted = ap (λ (y : Opened). y.refusal) h
 
     -- the number and the image by what the code does with r, and by the definitions
-    value_is : (r : Result (Answered ℕ) Refusal) → value_of r ≡ code (answer_of u r)
-    unfolding code
-    value_is (Ok a) = omega arith
-    value_is (Err e) = omega arith
-
     ended_is : (r : Result (Answered ℕ) Refusal) → ended r i ≡ changed (answer_of u r) i
-    unfolding image_after
-    ended_is (Ok a) = ap (λ (n : ℕ). (n, pack_image a.reu)) (value_is (Ok a))
+    unfolding code image_after
+    ended_is (Ok a) = ap (λ (n : ℕ). (n, pack_image a.reu)) (omega arith)
     ended_is (Err e) =
-        ap (λ (n : ℕ). (n, i)) (value_is (Err e))
+        ap (λ (n : ℕ). (n, i)) (omega arith)
         ∙ ap (λ (t : Bool). (code (answer_of u (Err e)), cond t (pack_image u) i)) (sym (ne_eqb (refusal_number e) 0 (refusal_some e)))
 
-    pub look_done : (f : Reu → Answer) (r : Result (Answered ℕ) Refusal) (x : ℕ) → answer_of u r ≡ f u → x ≡ value_of r → x ≡ look f i
-    unfolding look
-    look_done f r x ha hx =
-        done 0 _ accepted refusal x _ refl (hx ∙ value_is r ∙ ap code ha ∙ ap (λ (y : Opened). code (f y.reu)) h)
+    well : well_formed u ≡ true
+    unfolding image_ok
+    well = sym (ap (λ (y : Opened). well_formed y.reu) (sym (h ∙ opened_is i (sym accepted)))) ∙ and_right (bytes_ok i) (well_formed (reu_at i)) (opened_ok i (sym accepted))
+
+    pub look_done : (f : Reu → Answer) (x : ℕ) → (well_formed u ≡ true → answered x u ≡ f u) → x ≡ look f i
+    unfolding look code
+    look_done f x hx = done 0 _ accepted refusal x _ refl (omega arith ∙ ap code (hx well) ∙ ap (λ (y : Opened). code (f y.reu)) h)
 
     pub change_done : (f : Reu → Answer) (r : Result (Answered ℕ) Refusal) (x : ℕ) (j : List ℕ) → answer_of u r ≡ f u → (x, j) ≡ ended r i → (x, j) ≡ change f i
     unfolding change
@@ -116,6 +115,12 @@ module _ (i : List ℕ) where
 
     pub kept_by : (r : Result (Answered ℕ) Refusal) → ((j : ℕ) → Fits w8 (get_or i j 0)) → (Typed u → well_formed u ≡ true → Left r) → Kept r i
     kept_by r b w = let s = sound (bytes_of i b) in left_kept r (w (sound_typed u s) (sound_well u s))
+
+-- ---- a controller in range is not refused by a call that lends nothing
+pub shown : (u : Reu) (v x : ℕ) → well_formed u ≡ true → x ≡ v → answered x u ≡ call u (answered v u)
+unfolding refusal_of checked
+shown u v x w h =
+    ap (λ (n : ℕ). answered n u) h ∙ sym (λ i. checked (cond (w i) (cond (eq-eqb u.size u.size refl i) 0 4) 2) (refused u) (answered v u))
 
 -- ---- a new image
 

@@ -7,18 +7,14 @@ use Rattle.controller.specs.declared.reu.Answered.{Answered}
 use Rattle.controller.specs.declared.reu.Reu.{Reu}
 use Rattle.controller.specs.declared.reu.Step.{Step}
 use Rattle.controller.specs.Answers.{Answer, refusal_number, answer_of, step_answer_of}
+use Rattle.controller.specs.Calls.{answered}
 use Rattle.controller.specs.TickDma.{Ticked}
 use Rattle.controller.specs.Refusals.{well_formed}
 use Rattle.image.specs.Layout.{image_size, pack_image}
 use Rattle.image.specs.Valid.{Bytes, Typed}
 use Rattle.reu.specs.Exports.{refusal}
 
--- the number that is answered: "A refusal has value 0"
-abbrev pub value_of : Result (Answered ℕ) Refusal → ℕ
-value_of (Ok a) = a.value
-value_of (Err e) = refusal (refusal_number e)
-
--- and the image with what is left, which can be stored in it
+-- the number that is answered, and the image with what is left, which can be stored in it: "A refusal has value 0"
 abbrev pub ended : Result (Answered ℕ) Refusal → List ℕ → (ℕ × List ℕ)
 ended (Ok a) i = (a.value, pack_image a.reu)
 ended (Err e) i = (refusal (refusal_number e), i)
@@ -38,6 +34,10 @@ Left (Err e) = Unit {0}
 -- what it answers is what f says of the controller
 abbrev pub Gives : {F : Type 0} → (F → Reu → Result (Answered ℕ) Refusal → Type 0) → F → (Reu → Answer) → Type 0
 Gives post call f = (u : Reu) (r : Result (Answered ℕ) Refusal) → post call u r → answer_of u r ≡ f u
+
+-- the value that it shows of a controller in range is what f answers
+abbrev pub Shows : {F : Type 0} → (F → Reu → ℕ → Type 0) → F → (Reu → Answer) → Type 0
+Shows post value f = (u : Reu) (x : ℕ) → well_formed u ≡ true → post value u x → answered x u ≡ f u
 
 -- what it leaves of a controller that can be stored can be stored
 abbrev pub Keeps : {F : Type 0} → (F → Reu → Result (Answered ℕ) Refusal → Type 0) → F → Type 0

@@ -10,7 +10,7 @@ ghost use Rattle.controller.specs.TickDma.{Ticked};
 ghost use Rattle.controller.specs.declared.reu.Reu.{Reu};
 ghost use Rattle.reu.specs.Exports.{change, change_both, change_storage, look, refusal, reu_bus_action, reu_c64_access, reu_capacity_bytes, reu_cpu_ready, reu_cycle, reu_debug_register, reu_dma_active, reu_new, reu_read, reu_reset, reu_set_enabled, reu_set_size, reu_storage_present, reu_tick_dma, reu_trigger_ff00, reu_write};
 ghost use Rattle.reu.specs.Logged.{logged_both, logged_cycle};
-ghost use Rattle.reu.specs.Inner.{Gives, GivesBoth, GivesStored, Keeps, KeepsBoth, KeepsStored, Kept, ended, value_of};
+ghost use Rattle.reu.specs.Inner.{Gives, GivesBoth, GivesStored, Keeps, KeepsBoth, KeepsStored, Kept, Shows, ended};
 
 mod direct;
 
@@ -33,14 +33,15 @@ fn refused(reason: Refusal) -> u32
     REFUSAL_UNIT * u32::from(reason)
 }
 
-// A call that looks at the controller of an image. That a closure may be called is asked here and below: no type says it.
-#[tactic(auto, using(crate::proofs::Families::look_done))]
-fn look<F: FnOnce(Reu) -> Result<Answered<u32>, Refusal>>(image: &[u8], call: F) -> u32
-    requires { F.IsAlwaysCallable call }
-    ensures { (f : Reu → Answer) → Gives F.post call f → result ≡ look f image.now }
+// A call that looks at the controller of an image. The image has been tested, so the controller is in range, and no call of its tests it again.
+// That a closure may be called is asked here and below: no type says it.
+#[inline(always)]
+fn look<F: FnOnce(Reu) -> u32>(image: &[u8], value: F) -> u32
+    requires { F.IsAlwaysCallable value }
+    ensures { (f : Reu → Answer) → Shows F.post value f → result ≡ look f image.now }
 {
     match image::open(image) {
-        Ok(reu) => value_of(call(reu)),
+        Ok(reu) => value(reu),
         Err(reason) => refused(reason),
     }
 }
@@ -100,16 +101,6 @@ fn change_both<F: FnOnce(Reu, &mut [u8], &mut [u8]) -> Result<Answered<Step>, Re
             answer: refused(reason),
             stores: None,
         },
-    }
-}
-
-// The end of a call that looks at the controller: its value, or the number of its refusal.
-fn value_of(answer: Result<Answered<u32>, Refusal>) -> u32
-    ensures { result ≡ value_of answer }
-{
-    match answer {
-        Ok(done) => done.value,
-        Err(reason) => refused(reason),
     }
 }
 
@@ -181,18 +172,20 @@ pub extern "C" fn reu_set_enabled(image: &mut [u8], storage: &mut [u8], enabled:
     )
 }
 
+#[tactic(auto, unfolding(controller::specs::Calls::storage_present_call), using(crate::proofs::Families::shown))]
 #[unsafe(no_mangle)]
 pub extern "C" fn reu_storage_present(image: &[u8]) -> u32
     ensures { result ≡ reu_storage_present image.now }
 {
-    look(image, |reu| reu.storage_present())
+    look(image, |reu| u32::from(reu.attached))
 }
 
+#[tactic(auto, unfolding(controller::specs::Calls::capacity_bytes_call), using(crate::proofs::Families::shown))]
 #[unsafe(no_mangle)]
 pub extern "C" fn reu_capacity_bytes(image: &[u8]) -> u32
     ensures { result ≡ reu_capacity_bytes image.now }
 {
-    look(image, |reu| reu.capacity_bytes())
+    look(image, |reu| reu.capacity())
 }
 
 #[tactic(auto, using(crate::proofs::Keeping::trigger_keeps))]
@@ -219,11 +212,12 @@ pub extern "C" fn reu_write(image: &mut [u8], addr: u16, value: u8) -> u32
     change(image, |reu| reu.write(addr, value))
 }
 
+#[tactic(auto, unfolding(controller::specs::Calls::dma_active_call), using(crate::proofs::Families::shown))]
 #[unsafe(no_mangle)]
 pub extern "C" fn reu_dma_active(image: &[u8]) -> u32
     ensures { result ≡ reu_dma_active image.now }
 {
-    look(image, |reu| reu.dma_active())
+    look(image, |reu| u32::from(reu.dma.is_some()))
 }
 
 #[unsafe(no_mangle)]
@@ -249,18 +243,20 @@ pub extern "C" fn reu_cpu_ready_after_dma(image: &mut [u8], ba_high: u32) -> u32
     change(image, |reu| reu.cpu_ready_after_dma(ba_high != 0))
 }
 
+#[tactic(auto, unfolding(controller::specs::Calls::debug_register_call), using(crate::proofs::Families::shown))]
 #[unsafe(no_mangle)]
 pub extern "C" fn reu_debug_register(image: &[u8], index: u64) -> u32
     ensures { result ≡ reu_debug_register image.now index }
 {
-    look(image, |reu| reu.debug_register(index))
+    look(image, |reu| u32::from(reu.register_at(index)))
 }
 
+#[tactic(auto, unfolding(controller::specs::Calls::c64_access_call), using(crate::proofs::Families::shown))]
 #[unsafe(no_mangle)]
 pub extern "C" fn reu_c64_access(image: &[u8]) -> u32
     ensures { result ≡ reu_c64_access image.now }
 {
-    look(image, |reu| reu.c64_access())
+    look(image, |reu| u32::from(reu.next_access()))
 }
 
 #[unsafe(no_mangle)]
