@@ -139,7 +139,7 @@ impl Reu {
 
     // What a register holds; nothing changes, and the index is not folded.
     #[tactic(auto, unfolding(crate::specs::Registers::debug_register))]
-    pub fn register_at(self, index: u64) -> u8
+    pub(crate) fn register_at(self, index: u64) -> u8
         ensures { result ≡ debug_register self index }
     {
         usize::try_from(index)

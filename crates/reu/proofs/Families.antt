@@ -117,10 +117,10 @@ module _ (i : List ℕ) where
     kept_by r b w = let s = sound (bytes_of i b) in left_kept r (w (sound_typed u s) (sound_well u s))
 
 -- ---- a controller in range is not refused by a call that lends nothing
-pub shown : (u : Reu) (v x : ℕ) → well_formed u ≡ true → x ≡ v → answered x u ≡ call u (answered v u)
+pub served : (u : Reu) (v x : ℕ) (w : Reu) → well_formed u ≡ true → x ≡ v → answered x w ≡ call u (answered v w)
 unfolding refusal_of checked
-shown u v x w h =
-    ap (λ (n : ℕ). answered n u) h ∙ sym (λ i. checked (cond (w i) (cond (eq-eqb u.size u.size refl i) 0 4) 2) (refused u) (answered v u))
+served u v x w ok h =
+    ap (λ (n : ℕ). answered n w) h ∙ sym (λ i. checked (cond (ok i) (cond (eq-eqb u.size u.size refl i) 0 4) 2) (refused u) (answered v w))
 
 -- ---- a new image
 

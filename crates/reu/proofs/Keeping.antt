@@ -7,13 +7,13 @@ use Rattle.controller.specs.declared.reu.Reu.{Reu}
 use Rattle.controller.specs.declared.reu.Step.{Step}
 use Rattle.controller.specs.Answers.{Answer, StepAnswer, answer_of, step_answer_of}
 use Rattle.controller.specs.Refusals.{well_formed}
-use Rattle.controller.specs.Calls.{numbered, reset_call, set_size_call, set_enabled_call, trigger_call, read_call, write_call, bus_action_call, cpu_ready_call, tick_call, cycle_call}
+use Rattle.controller.specs.Calls.{numbered, reset_call, set_size_call, set_enabled_call, trigger_call, write_call, bus_action_call, cpu_ready_call, tick_call, cycle_call}
 use Rattle.controller.specs.TickDma.{Ticked}
 use Rattle.controller.proofs.Checked.{refusal_some}
 use Rattle.image.specs.Valid.{Bytes, Typed}
 use Rattle.image.proofs.Valid.{sound_of}
 use Rattle.reu.specs.Inner.{Left}
-use Rattle.reu.proofs.Wholes.{Whole, reset_whole, set_size_whole, set_enabled_whole, trigger_whole, read_whole, write_whole, bus_action_whole, cpu_ready_whole, tick_whole, cycle_whole}
+use Rattle.reu.proofs.Wholes.{Whole, reset_whole, set_size_whole, set_enabled_whole, trigger_whole, write_whole, bus_action_whole, cpu_ready_whole, tick_whole, cycle_whole}
 
 left : (u : Reu) (r : Result (Answered ℕ) Refusal) (a : Answer) → answer_of u r ≡ a → Whole a → Left r
 left u (Ok b) a e w = (subst Whole (sym e) w).well
@@ -38,9 +38,6 @@ module _ (u : Reu) (r : Result (Answered ℕ) Refusal) (typed : Typed u) (w : we
 
   pub trigger_keeps : answer_of u r ≡ trigger_call u → Left r
   trigger_keeps e = left u r _ e (trigger_whole u (sound_of u typed w))
-
-  pub read_keeps : (addr : ℕ) → answer_of u r ≡ read_call u addr → Left r
-  read_keeps addr e = left u r _ e (read_whole u (sound_of u typed w) addr)
 
   pub write_keeps : (addr value : ℕ) → value < 256 → answer_of u r ≡ write_call u addr value → Left r
   write_keeps addr value h e = left u r _ e (write_whole u (sound_of u typed w) addr value h)

@@ -13,6 +13,7 @@ ghost use Rattle.reu.specs.Logged.{logged_both, logged_cycle};
 ghost use Rattle.reu.specs.Inner.{Gives, GivesBoth, GivesStored, Keeps, KeepsBoth, KeepsStored, Kept, Shows, ended};
 
 mod direct;
+mod register;
 
 use controller::{Answered, Refusal, Reu, Step};
 use regs::Stores;
@@ -172,7 +173,7 @@ pub extern "C" fn reu_set_enabled(image: &mut [u8], storage: &mut [u8], enabled:
     )
 }
 
-#[tactic(auto, unfolding(controller::specs::Calls::storage_present_call), using(crate::proofs::Families::shown))]
+#[tactic(auto, unfolding(controller::specs::Calls::storage_present_call), using(crate::proofs::Families::served))]
 #[unsafe(no_mangle)]
 pub extern "C" fn reu_storage_present(image: &[u8]) -> u32
     ensures { result ≡ reu_storage_present image.now }
@@ -180,7 +181,7 @@ pub extern "C" fn reu_storage_present(image: &[u8]) -> u32
     look(image, |reu| u32::from(reu.attached))
 }
 
-#[tactic(auto, unfolding(controller::specs::Calls::capacity_bytes_call), using(crate::proofs::Families::shown))]
+#[tactic(auto, unfolding(controller::specs::Calls::capacity_bytes_call), using(crate::proofs::Families::served))]
 #[unsafe(no_mangle)]
 pub extern "C" fn reu_capacity_bytes(image: &[u8]) -> u32
     ensures { result ≡ reu_capacity_bytes image.now }
@@ -196,12 +197,11 @@ pub extern "C" fn reu_trigger_ff00(image: &mut [u8]) -> u32
     change(image, |reu| reu.trigger_ff00())
 }
 
-#[tactic(auto, using(crate::proofs::Keeping::read_keeps))]
 #[unsafe(no_mangle)]
 pub extern "C" fn reu_read(image: &mut [u8], addr: u16) -> u32
     ensures { (result, image.new) ≡ reu_read image.old addr }
 {
-    change(image, |reu| reu.read(addr))
+    register::read(image, addr)
 }
 
 #[tactic(auto, using(crate::proofs::Keeping::write_keeps))]
@@ -212,7 +212,7 @@ pub extern "C" fn reu_write(image: &mut [u8], addr: u16, value: u8) -> u32
     change(image, |reu| reu.write(addr, value))
 }
 
-#[tactic(auto, unfolding(controller::specs::Calls::dma_active_call), using(crate::proofs::Families::shown))]
+#[tactic(auto, unfolding(controller::specs::Calls::dma_active_call), using(crate::proofs::Families::served))]
 #[unsafe(no_mangle)]
 pub extern "C" fn reu_dma_active(image: &[u8]) -> u32
     ensures { result ≡ reu_dma_active image.now }
@@ -243,15 +243,14 @@ pub extern "C" fn reu_cpu_ready_after_dma(image: &mut [u8], ba_high: u32) -> u32
     change(image, |reu| reu.cpu_ready_after_dma(ba_high != 0))
 }
 
-#[tactic(auto, unfolding(controller::specs::Calls::debug_register_call), using(crate::proofs::Families::shown))]
 #[unsafe(no_mangle)]
 pub extern "C" fn reu_debug_register(image: &[u8], index: u64) -> u32
     ensures { result ≡ reu_debug_register image.now index }
 {
-    look(image, |reu| u32::from(reu.register_at(index)))
+    register::debug(image, index)
 }
 
-#[tactic(auto, unfolding(controller::specs::Calls::c64_access_call), using(crate::proofs::Families::shown))]
+#[tactic(auto, unfolding(controller::specs::Calls::c64_access_call), using(crate::proofs::Families::served))]
 #[unsafe(no_mangle)]
 pub extern "C" fn reu_c64_access(image: &[u8]) -> u32
     ensures { result ≡ reu_c64_access image.now }

@@ -1,0 +1,91 @@
+-- The registers of an image i where it stands: what a look at one, a read and a write are, by the tests that decide.
+use Rattle.std.proofs.Common.{◌≡◌, ℕ, ◌<◌, Bool, true, false, cond, List, length, set, refl, sym, ap, ◌∙◌, arith}
+use Rattle.std.proofs.Math.Dec.{ltb, eqb}
+use Rattle.std.proofs.lemmas.List.{get_or-take}
+use borrow.Author.Tests.{ltb-true}
+use Rattle.std.specs.Prelude.{Ok}
+use Rattle.transfer.specs.Constants.{register_count, status, unused_register}
+use Rattle.regs.specs.Registers.{acknowledged, register_index, shown}
+use Rattle.controller.specs.declared.refusals.Refusal.TheVariants.{Length, Field}
+use Rattle.controller.specs.declared.reu.Reu.{Reu}
+use Rattle.controller.specs.declared.reu.Answered.{Answered}
+use Rattle.controller.specs.Answers.{Answer}
+use Rattle.controller.specs.Reu.{reg, set_reg, with_irq}
+use Rattle.controller.specs.Refusals.{well_formed}
+use Rattle.controller.specs.Registers.{debug_register, read_at, read_register}
+use Rattle.controller.specs.Calls.{debug_register_call, read_call}
+use Rattle.image.specs.Layout.{at, image_size, pack_image, reu_at}
+use Rattle.image.specs.Open.{image_ok}
+use Rattle.image.specs.Valid.{Bytes}
+use Rattle.image.proofs.ByBytes.{registers_are}
+use Rattle.image.proofs.Opening.{open_other, open_bad, open_good}
+use Rattle.image.proofs.Unpacked.{pack_open, opened_well}
+use Rattle.reu.specs.Exports.{refusal, look, change, reu_debug_register, reu_read}
+use Rattle.reu.specs.Register.{flagged, read_in}
+use Rattle.reu.proofs.Families.{look_refused, look_done, change_refused, change_done, served}
+use Rattle.reu.proofs.InPlace.{status_laid}
+
+module _ (i : List ℕ) where
+  -- ---- an image of another length, and one that is not accepted
+  module _ (f : Reu → Answer) (x : ℕ) where
+    pub look_other : (length i ≡ image_size → ⊥) → x ≡ refusal 1 → x ≡ look f i
+    look_other h q = look_refused i Length (sym (open_other i h)) f x q
+
+    pub look_bad : length i ≡ image_size → image_ok i ≡ false → x ≡ refusal 2 → x ≡ look f i
+    look_bad h b q = look_refused i Field (sym (open_bad i h b)) f x q
+
+    pub change_other : (length i ≡ image_size → ⊥) → x ≡ refusal 1 → (x, i) ≡ change f i
+    change_other h q = change_refused i Length (sym (open_other i h)) f x q
+
+    pub change_bad : length i ≡ image_size → image_ok i ≡ false → x ≡ refusal 2 → (x, i) ≡ change f i
+    change_bad h b q = change_refused i Field (sym (open_bad i h b)) f x q
+
+  -- ---- an accepted one
+  module _ (long : length i ≡ image_size) where
+    abbrev u : Reu
+    u = reu_at i
+
+    -- a register is its byte
+    reg_is : (k : ℕ) → k < register_count → reg u k ≡ at i k
+    unfolding reu_at
+    reg_is k h = ap (λ (l : List ℕ). at l k) (registers_are i long) ∙ get_or-take register_count i k 0 h
+
+    module _ (ok : image_ok i ≡ true) where
+      pub debug_is : (k x : ℕ) → x ≡ cond (ltb k register_count) (at i k) unused_register → x ≡ reu_debug_register i k
+      unfolding debug_register_call debug_register
+      debug_is k x h =
+          look_done i u (sym (open_good i long ok)) (λ v. debug_register_call v k) x (λ w. served u _ x u w (h ∙ go (ltb k register_count) refl))
+        where
+          go : (b : Bool) → ltb k register_count ≡ b → cond b (at i k) unused_register ≡ cond b (reg u k) unused_register
+          go true e = sym (reg_is k (ltb-true k register_count e))
+          go false e = refl
+
+      module _ (whole : Bytes i) where
+        same : pack_image u ≡ i
+        same = pack_open i whole long ok
+
+        well : well_formed u ≡ true
+        well = opened_well i whole long ok
+
+        read_is : (k : ℕ) → ◌≡◌ {A = ℕ × List ℕ} (read_in i k) ((read_at u k).value, pack_image (read_at u k).reu)
+        read_is k = go (ltb k register_count) (eqb k status) refl
+          where
+            answer : Bool → Bool → Answered ℕ
+            answer a b =
+                cond a (cond b (record { value = reg u status; reu = with_irq (set_reg u status (acknowledged (reg u status))) false }) (record { value = shown k (reg u k); reu = u }))
+                (record { value = unused_register; reu = u })
+
+            go : (a b : Bool) → ltb k register_count ≡ a
+                → ◌≡◌ {A = ℕ × List ℕ} (cond a (cond b (at i status, flagged (set i status (acknowledged (at i status))) (with_irq u false)) (shown k (at i k), i)) (unused_register, i))
+                ((answer a b).value, pack_image (answer a b).reu)
+            go true true e =
+                ap (λ (n : ℕ). (n, flagged (set i status (acknowledged n)) (with_irq u false))) (sym (reg_is status (omega arith)))
+                ∙ ap (λ (l : List ℕ). (reg u status, l)) (status_laid i whole long ok (acknowledged (reg u status)) false)
+            go true false e = λ j. (shown k (sym (reg_is k (ltb-true k register_count e)) j), sym same j)
+            go false b e = λ j. (unused_register, sym same j)
+
+        pub read_done : (a x : ℕ) (l : List ℕ) → ◌≡◌ {A = ℕ × List ℕ} (x, l) (read_in i (register_index a)) → (x, l) ≡ reu_read i a
+        unfolding read_call read_register
+        read_done a x l h =
+            let r : Answered ℕ = read_at u (register_index a) in
+            h ∙ read_is (register_index a) ∙ change_done i u (sym (open_good i long ok)) (λ v. read_call v a) (Ok r) r.value (pack_image r.reu) (served u r.value r.value r.reu well refl) refl
