@@ -15,6 +15,7 @@ pub mod unpack;
 
 // The controller that an image holds.
 #[tactic(auto, unfolding(crate::specs::Open::open_image, controller::specs::Refusals::checked))]
+#[inline(always)]
 pub fn open(image: &[u8]) -> Result<Reu, Refusal>
     ensures { opened result ≡ open_image image.now }
 {
