@@ -110,7 +110,7 @@ impl Reu {
     // 16. By its two bytes there would be a second way beside the one that an expansion address takes.
     #[tactic(auto, unfolding(crate::specs::Registers::write_register))]
     #[inline(always)]
-    pub(crate) fn write_register(self, addr: u16, value: u8) -> Reu
+    pub fn write_register(self, addr: u16, value: u8) -> Reu
         ensures { result ≡ write_register self addr value }
     {
         let index = register_index(addr);

@@ -4,20 +4,33 @@ ghost use Rattle.std.proofs.lemmas.List.Edits.{sets};
 ghost use Rattle.transfer.specs.Constants.{bus_size, expansion_limit};
 ghost use Rattle.regs.specs.FinishDma.{counters};
 ghost use Rattle.image.specs.Fields.{laid};
-ghost use Rattle.image.specs.Layout.{flag_bits, flags, flags_of, granted_field, kind, place_of, transfer_numbers};
+ghost use Rattle.image.specs.Layout.{flag_bits, flags, flags_of, granted_field, kind, place_of, shadow_c64, shadow_exp, shadow_length, transfer_numbers};
 ghost use Rattle.image.specs.Inner.{Room, gets, stored, transfer_part};
 ghost use Rattle.std.specs.Int.{from_le_bytes, w64};
 ghost use Rattle.image.specs.InPlace.{Moving, Resting, Sized};
 
 use crate::layout::{
-    FLAGS, GRANTED_CYCLES, IMAGE_BYTES, MORE_FLAGS, OPTIONS, PHASE, TRANSFER_C64, TYPE,
+    FLAGS, GRANTED_CYCLES, IMAGE_BYTES, MORE_FLAGS, OPTIONS, PHASE, REGISTERS, SHADOW_C64,
+    SHADOW_EXPANSION, SHADOW_LENGTH, TRANSFER_C64, TYPE,
 };
 use crate::pack;
 use crate::unpack::{bytes, word};
 use controller::Reu;
 use transfer::DmaState;
 
-// ---- the eight flags, the count, the registers' counters, and a transfer
+// ---- the registers, the eight flags, the count, the registers' counters, and a transfer
+
+// With their shadows, which stand behind them.
+#[inline(always)]
+pub fn set_registers(image: &mut [u8; IMAGE_BYTES], reu: Reu)
+    requires { reu.shadow_reu_addr < expansion_limit }
+    ensures { image.new ≡ stored shadow_length (stored shadow_exp (stored shadow_c64 (sets image.old 0 reu.regs) reu.shadow_c64_addr) reu.shadow_reu_addr) reu.shadow_len }
+{
+    pack::put(image, REGISTERS, reu.regs);
+    pack::put(image, SHADOW_C64, reu.shadow_c64_addr.to_le_bytes());
+    pack::put(image, SHADOW_EXPANSION, pack::three(reu.shadow_reu_addr));
+    pack::put(image, SHADOW_LENGTH, reu.shadow_len.to_le_bytes());
+}
 
 #[inline(always)]
 pub fn set_flags(image: &mut [u8; IMAGE_BYTES], reu: Reu)

@@ -1,10 +1,13 @@
 -- The registers of an image i where it stands: what a look at one, a read and a write are, by the tests that decide.
-use Rattle.std.proofs.Common.{◌≡◌, ℕ, ◌<◌, Bool, true, false, cond, List, length, set, refl, sym, ap, ◌∙◌, arith}
+use Rattle.std.proofs.Common.{◌≡◌, ◌&&◌, ℕ, ◌<◌, Bool, true, false, cond, List, length, set, refl, sym, ap, ◌∙◌, subst, arith}
 use Rattle.std.proofs.Math.Dec.{ltb, eqb}
 use Rattle.std.proofs.lemmas.List.{get_or-take}
 use borrow.Author.Tests.{ltb-true}
+use mathlib.Core.Bool.{false≢true}
 use Rattle.std.specs.Prelude.{Ok}
-use Rattle.transfer.specs.Constants.{register_count, status, unused_register}
+use Rattle.transfer.specs.Constants.{command, execute, expansion_limit, register_count, status, unused_register, without_ff00}
+use Rattle.transfer.specs.Bytes.{bit}
+use Rattle.transfer.proofs.Pick.{by_test}
 use Rattle.regs.specs.Registers.{acknowledged, register_index, shown}
 use Rattle.controller.specs.declared.refusals.Refusal.TheVariants.{Length, Field}
 use Rattle.controller.specs.declared.reu.Reu.{Reu}
@@ -12,18 +15,66 @@ use Rattle.controller.specs.declared.reu.Answered.{Answered}
 use Rattle.controller.specs.Answers.{Answer}
 use Rattle.controller.specs.Reu.{reg, set_reg, with_irq}
 use Rattle.controller.specs.Refusals.{well_formed}
-use Rattle.controller.specs.Registers.{debug_register, read_at, read_register}
-use Rattle.controller.specs.Calls.{debug_register_call, read_call}
+use Rattle.controller.specs.FinishDma.{update_irq}
+use Rattle.controller.specs.Registers.{debug_register, read_at, read_register, write_command, write_register}
+use Rattle.controller.specs.Calls.{debug_register_call, read_call, write_call}
 use Rattle.image.specs.Layout.{at, image_size, pack_image, reu_at}
 use Rattle.image.specs.Open.{image_ok}
 use Rattle.image.specs.Valid.{Bytes}
 use Rattle.image.proofs.ByBytes.{registers_are}
 use Rattle.image.proofs.Opening.{open_other, open_bad, open_good}
-use Rattle.image.proofs.Unpacked.{pack_open, opened_well}
-use Rattle.reu.specs.Exports.{refusal, look, change, reu_debug_register, reu_read}
-use Rattle.reu.specs.Register.{flagged, read_in}
+use Rattle.image.proofs.Sound.{Sound}
+use Rattle.image.proofs.SoundCalls.{sound_write}
+use Rattle.image.proofs.Unpacked.{pack_open, opened_typed, opened_well}
+use Rattle.image.proofs.Valid.{sound_of}
+use Rattle.reu.specs.Exports.{refusal, look, change, reu_debug_register, reu_read, reu_write}
+use Rattle.reu.specs.Register.{flagged, read_in, registered, starts}
 use Rattle.reu.proofs.Families.{look_refused, look_done, change_refused, change_done, served}
-use Rattle.reu.proofs.InPlace.{status_laid}
+use Rattle.reu.proofs.InPlace.{registers_laid, status_laid}
+
+-- ---- what a write changes that begins no command
+
+-- u with the registers, the shadows and two of the flags of w
+abbrev kept : Reu → Reu → Reu
+kept u w =
+    record u {
+      regs = w.regs;
+      shadow_c64_addr = w.shadow_c64_addr;
+      shadow_reu_addr = w.shadow_reu_addr;
+      shadow_len = w.shadow_len;
+      irq_pending = w.irq_pending;
+      waiting_ff00 = w.waiting_ff00;
+    }
+
+record Kept (u w : Reu) : Type 0 where
+  is : w ≡ kept u w
+
+module _ (u : Reu) (a v : ℕ) (quiet : starts a v ≡ false) where
+  choose : (b : Bool) (x y : Reu) → (b ≡ true → Kept u x) → Kept u y → Kept u (cond b x y)
+  choose b x y h k = by_test (Kept u) b x y h (λ _. k)
+
+  plain : (w : Reu) → w ≡ kept u w → Kept u w
+  plain w h = record { is = h }
+
+  command_kept : eqb (register_index a) command ≡ true → Kept u (write_command u v)
+  unfolding write_command
+  command_kept k =
+      choose (bit v execute) _ _
+      (λ e. by_test (Kept u) (bit v without_ff00) _ _ (λ f. absurd (false≢true (sym quiet ∙ (λ j. k j && (e j && f j))))) (λ _. plain _ refl)) (plain _ refl)
+
+  write_kept : Kept u (write_register u a v)
+  unfolding write_register update_irq
+  write_kept =
+      let k : ℕ = register_index a in
+      choose (eqb k 1) _ _ command_kept
+      (choose (eqb k 2) _ _ (λ _. plain _ refl)
+      (choose (eqb k 3) _ _ (λ _. plain _ refl)
+      (choose (eqb k 4) _ _ (λ _. plain _ refl)
+      (choose (eqb k 5) _ _ (λ _. plain _ refl)
+      (choose (eqb k 6) _ _ (λ _. plain _ refl)
+      (choose (eqb k 7) _ _ (λ _. plain _ refl)
+      (choose (eqb k 8) _ _ (λ _. plain _ refl)
+      (choose (eqb k 9) _ _ (λ _. plain _ refl) (choose (eqb k 10) _ _ (λ _. plain _ refl) (plain u refl))))))))))
 
 module _ (i : List ℕ) where
   -- ---- an image of another length, and one that is not accepted
@@ -89,3 +140,19 @@ module _ (i : List ℕ) where
         read_done a x l h =
             let r : Answered ℕ = read_at u (register_index a) in
             h ∙ read_is (register_index a) ∙ change_done i u (sym (open_good i long ok)) (λ v. read_call v a) (Ok r) r.value (pack_image r.reu) (served u r.value r.value r.reu well refl) refl
+
+        -- w is what the write left of the controller
+        module _ (a v : ℕ) (fits : v < 256) (w : Reu) (e : w ≡ write_register u a v) where
+          sound : Sound w
+          sound = subst Sound (sym e) (sound_write u a v (sound_of u (opened_typed i whole long ok) well) fits)
+
+          pub write_room : w.shadow_reu_addr < expansion_limit
+          write_room = sound.exp
+
+          pub write_done : starts a v ≡ false → (l : List ℕ) → l ≡ flagged (registered i w) w → (0, l) ≡ reu_write i a v
+          unfolding write_call
+          write_done quiet l h =
+              let k : w ≡ kept u w = (subst (Kept u) (sym e) (write_kept u a v quiet)).is in
+              ap (λ (m : List ℕ). (0, m))
+              (h ∙ ap (flagged (registered i w)) k ∙ registers_laid i whole long ok w.regs w.shadow_c64_addr w.shadow_reu_addr w.shadow_len w.irq_pending w.waiting_ff00 sound.regs.len ∙ ap pack_image (sym k ∙ e))
+              ∙ change_done i u (sym (open_good i long ok)) (λ r. write_call r a v) (Ok (record { value = 0; reu = write_register u a v })) 0 (pack_image (write_register u a v)) (served u 0 0 (write_register u a v) well refl) refl

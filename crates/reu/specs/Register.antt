@@ -1,10 +1,13 @@
--- What a read of a register of an image answers and leaves where it stands. No exported contract cites this file.
-use Rattle.controller.specs.Prelude.{ℕ, false, List, cond, eqb, ltb, set}
-use Rattle.transfer.specs.Constants.{status, register_count, unused_register}
-use Rattle.regs.specs.Registers.{acknowledged, shown}
+-- What a read and a write of a register of an image leave of it where it stands. No exported contract cites this file.
+use Rattle.controller.specs.Prelude.{ℕ, Bool, false, List, cond, eqb, ltb, set}
+use Rattle.std.specs.Prelude.{◌&&◌}
+use Rattle.std.proofs.lemmas.List.Edits.{sets}
+use Rattle.transfer.specs.Bytes.{bit}
+use Rattle.transfer.specs.Constants.{status, command, execute, without_ff00, register_count, unused_register}
+use Rattle.regs.specs.Registers.{acknowledged, register_index, shown}
 use Rattle.controller.specs.declared.reu.Reu.{Reu}
 use Rattle.controller.specs.Reu.{with_irq}
-use Rattle.image.specs.Layout.{at, flag_bits, flags, flags_of, reu_at}
+use Rattle.image.specs.Layout.{at, flag_bits, flags, flags_of, reu_at, shadow_c64, shadow_exp, shadow_length}
 use Rattle.image.specs.Inner.{stored}
 
 -- the eight flags of a controller
@@ -16,3 +19,12 @@ read_in i k =
     cond (ltb k register_count)
     (cond (eqb k status) (at i status, flagged (set i status (acknowledged (at i status))) (with_irq (reu_at i) false)) (shown k (at i k), i))
     (unused_register, i)
+
+-- a write of v begins a command
+abbrev pub starts : ℕ → ℕ → Bool
+starts addr v = eqb (register_index addr) command && (bit v execute && bit v without_ff00)
+
+-- the registers and the shadows of a controller
+abbrev pub registered : List ℕ → Reu → List ℕ
+registered i u =
+    stored shadow_length (stored shadow_exp (stored shadow_c64 (sets i 0 u.regs) u.shadow_c64_addr) u.shadow_reu_addr) u.shadow_len

@@ -204,9 +204,21 @@ pub extern "C" fn reu_read(image: &mut [u8], addr: u16) -> u32
     register::read(image, addr)
 }
 
-#[tactic(auto, using(crate::proofs::Keeping::write_keeps))]
 #[unsafe(no_mangle)]
 pub extern "C" fn reu_write(image: &mut [u8], addr: u16, value: u8) -> u32
+    ensures { (result, image.new) ≡ reu_write image.old addr value }
+{
+    if register::starts(addr, value) {
+        started(image, addr, value)
+    } else {
+        register::write(image, addr, value)
+    }
+}
+
+// A write that begins a command. It stays a function of its own: within the call it would take registers that every write would have to save.
+#[tactic(auto, using(crate::proofs::Keeping::write_keeps))]
+#[inline(never)]
+fn started(image: &mut [u8], addr: u16, value: u8) -> u32
     ensures { (result, image.new) ≡ reu_write image.old addr value }
 {
     change(image, |reu| reu.write(addr, value))
