@@ -173,5 +173,8 @@ pub fn accepted(image: &[u8; IMAGE_BYTES]) -> bool
         let ranges = (image[layout::MORE_FLAGS] < 12) & (image[layout::DELAY] < 3);
         return idle_ok(image) & (ranges & marked(image));
     }
-    ranges_ok(image) & controller_at(image).well_formed()
+    if !ranges_ok(image) {
+        return false;
+    }
+    controller_at(image).well_formed()
 }
