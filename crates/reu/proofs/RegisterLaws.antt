@@ -28,7 +28,7 @@ use Rattle.image.proofs.SoundCalls.{sound_write}
 use Rattle.image.proofs.Unpacked.{pack_open, opened_typed, opened_well}
 use Rattle.image.proofs.Valid.{sound_of}
 use Rattle.reu.specs.Exports.{refusal, look, change, reu_debug_register, reu_read, reu_write}
-use Rattle.reu.specs.Register.{flagged, read_in, registered, starts}
+use Rattle.reu.specs.Direct.{flagged, read_in, registered, starts}
 use Rattle.reu.proofs.Families.{look_refused, look_done, change_refused, change_done, served}
 use Rattle.reu.proofs.InPlace.{registers_laid, status_laid}
 

@@ -1,14 +1,18 @@
 -- What the short ways of the calls leave of an image where it stands. No exported contract cites this file.
 use Rattle.std.specs.Prelude.{◌≡◌, ◌&&◌, Option, None, Some}
 use Rattle.std.proofs.lemmas.List.Edits.{sets}
-use Rattle.controller.specs.Prelude.{ℕ, Bool, true, not, List, Store, Recall, Swap, Verify, SwapPhase, ReadC64, WriteC64, TransferType, DmaState}
-use Rattle.controller.specs.Reu.{with_history}
+use Rattle.controller.specs.Prelude.{ℕ, Bool, true, false, not, List, cond, eqb, ltb, set, Store, Recall, Swap, Verify, SwapPhase, ReadC64, WriteC64, TransferType, DmaState}
+use Rattle.controller.specs.declared.reu.Reu.{Reu}
+use Rattle.controller.specs.Reu.{with_history, with_irq}
+use Rattle.transfer.specs.Bytes.{bit}
+use Rattle.transfer.specs.Constants.{status, command, execute, without_ff00, register_count, unused_register}
+use Rattle.regs.specs.Registers.{acknowledged, register_index, shown}
 use Rattle.controller.specs.Calls.{step_number}
 use Rattle.transfer.specs.Dma.{moved, passed, latched, with_latch}
 use Rattle.transfer.specs.Memory.{seen_at, bus_byte, set_bus, storage_byte, set_storage}
 use Rattle.regs.specs.FinishDma.{counters}
 use Rattle.image.specs.Fields.{laid}
-use Rattle.image.specs.Layout.{flag_bits, flags, flags_of, kind, place_of, reu_at, transfer_numbers}
+use Rattle.image.specs.Layout.{at, flag_bits, flags, flags_of, kind, place_of, reu_at, shadow_c64, shadow_exp, shadow_length, transfer_numbers}
 use Rattle.image.specs.Inner.{stored, transfer_part}
 
 -- what a short way answers: none is taken and nothing has changed, or what is answered and left is what the call says
@@ -48,3 +52,24 @@ typed_in Verify size d i m s cycle = with_memory (completed_in i d) m s
 
 abbrev pub byte_in : ℕ → DmaState → List ℕ → List ℕ → List ℕ → ℕ → (ℕ × List ℕ × List ℕ × List ℕ)
 byte_in size d i m s cycle = typed_in d.transfer_type size d i m s cycle
+
+-- ---- the registers
+
+-- the eight flags of a controller
+abbrev pub flagged : List ℕ → Reu → List ℕ
+flagged i u = stored flags i (flags_of (flag_bits u))
+
+abbrev pub read_in : List ℕ → ℕ → (ℕ × List ℕ)
+read_in i k =
+    cond (ltb k register_count)
+    (cond (eqb k status) (at i status, flagged (set i status (acknowledged (at i status))) (with_irq (reu_at i) false)) (shown k (at i k), i))
+    (unused_register, i)
+
+-- a write of v begins a command
+abbrev pub starts : ℕ → ℕ → Bool
+starts addr v = eqb (register_index addr) command && (bit v execute && bit v without_ff00)
+
+-- the registers and the shadows of a controller
+abbrev pub registered : List ℕ → Reu → List ℕ
+registered i u =
+    stored shadow_length (stored shadow_exp (stored shadow_c64 (sets i 0 u.regs) u.shadow_c64_addr) u.shadow_reu_addr) u.shadow_len

@@ -13,7 +13,6 @@ ghost use Rattle.reu.specs.Logged.{logged_both, logged_cycle};
 ghost use Rattle.reu.specs.Inner.{Gives, GivesBoth, GivesStored, Keeps, KeepsBoth, KeepsStored, Kept, Shows, ended};
 
 mod direct;
-mod register;
 
 use controller::{Answered, Refusal, Reu, Step};
 use regs::Stores;
@@ -201,17 +200,17 @@ pub extern "C" fn reu_trigger_ff00(image: &mut [u8]) -> u32
 pub extern "C" fn reu_read(image: &mut [u8], addr: u16) -> u32
     ensures { (result, image.new) ≡ reu_read image.old addr }
 {
-    register::read(image, addr)
+    direct::read(image, addr)
 }
 
 #[unsafe(no_mangle)]
 pub extern "C" fn reu_write(image: &mut [u8], addr: u16, value: u8) -> u32
     ensures { (result, image.new) ≡ reu_write image.old addr value }
 {
-    if register::starts(addr, value) {
+    if direct::starts(addr, value) {
         started(image, addr, value)
     } else {
-        register::write(image, addr, value)
+        direct::write(image, addr, value)
     }
 }
 
@@ -259,7 +258,7 @@ pub extern "C" fn reu_cpu_ready_after_dma(image: &mut [u8], ba_high: u32) -> u32
 pub extern "C" fn reu_debug_register(image: &[u8], index: u64) -> u32
     ensures { result ≡ reu_debug_register image.now index }
 {
-    register::debug(image, index)
+    direct::debug(image, index)
 }
 
 #[tactic(auto, unfolding(controller::specs::Calls::c64_access_call), using(crate::proofs::Families::served))]

@@ -1,7 +1,7 @@
 use Rattle.std.proofs.Common.{rules}
 use Rattle.reu.proofs.Families.{bytes_of}
 use Rattle.reu.proofs.RegisterLaws.{read_done}
-use Rattle.reu.proofs.register.read.Goals as goal
+use Rattle.reu.proofs.direct.read.Goals as goal
 
 pub returns : goal.returns
 returns c =

@@ -1,7 +1,7 @@
 use Rattle.std.proofs.Common.{rules}
 use Rattle.reu.proofs.Families.{bytes_of}
 use Rattle.reu.proofs.RegisterLaws.{write_done, write_room}
-use Rattle.reu.proofs.register.write.Goals as goal
+use Rattle.reu.proofs.direct.write.Goals as goal
 
 pub set_registers-requires : goal.set_registers-requires
 set_registers-requires c =
