@@ -11,7 +11,7 @@ ghost use Rattle.reu.specs.Direct.{Short, byte_in, completed_in, read_in, rememb
 
 use crate::refused;
 use controller::{Refusal, Reu};
-use image::layout::IMAGE_BYTES;
+use image::layout::{IMAGE_BYTES, TRANSFER};
 use image::{in_place, unpack};
 use regs::{
     COMMAND, COMMAND_EXECUTE, COMMAND_FF00_DISABLE, REGISTER_COUNT, STATUS, UNUSED_REGISTER_VALUE,
@@ -238,24 +238,9 @@ fn go_on(
     Some(byte(image, bus, storage, reu.size, d, cycle))
 }
 
-// ---- the same of a slice, which has an image's length or goes the plain way
-
+// The short way of a cycle, if one is taken.
 #[inline(always)]
-pub(crate) fn resting_cycle(
-    image: &mut [u8],
-    bus: &[u8],
-    storage: &[u8],
-    ba_high: bool,
-    ba_high_phi1: bool,
-) -> Option<u32>
-    ensures { (n : ℕ) (low : Bool) → Short result (image.old, bus.now, storage.now) (image.new, bus.now, storage.now) (change_both (λ u b t. cycle_call u b t ba_high ba_high_phi1 n low) image.old bus.now storage.now) }
-{
-    let fields = image.as_mut_array::<IMAGE_BYTES>()?;
-    rest(fields, bus, storage, ba_high, ba_high_phi1)
-}
-
-#[inline(always)]
-pub(crate) fn moving_cycle(
+pub(crate) fn cycle(
     image: &mut [u8],
     bus: &mut [u8],
     storage: &mut [u8],
@@ -266,5 +251,9 @@ pub(crate) fn moving_cycle(
     ensures { (low : Bool) → Short result (image.old, bus.old, storage.old) (image.new, bus.new, storage.new) (change_both (λ u b t. cycle_call u b t ba_high ba_high_phi1 cycle low) image.old bus.old storage.old) }
 {
     let fields = image.as_mut_array::<IMAGE_BYTES>()?;
-    go_on(fields, bus, storage, ba_high, ba_high_phi1, cycle)
+    if fields[TRANSFER] == 0 {
+        rest(fields, bus, storage, ba_high, ba_high_phi1)
+    } else {
+        go_on(fields, bus, storage, ba_high, ba_high_phi1, cycle)
+    }
 }

@@ -316,26 +316,7 @@ pub extern "C" fn reu_run_reu_cycle(
 ) -> u32
     ensures { (result, image.new, bus.new, storage.new) ≡ reu_cycle image.old bus.old storage.old ba_high cycle ba_low ba_high_phi1 }
 {
-    match direct::resting_cycle(image, bus, storage, ba_high != 0, ba_high_phi1 != 0) {
-        Some(answer) => answer,
-        None => moving_cycle(image, bus, storage, ba_high, cycle, ba_low, ba_high_phi1),
-    }
-}
-
-// A cycle of an image that does not rest. It stays a function of its own: within the call it would take registers that an idle cycle would have to save.
-#[inline(never)]
-fn moving_cycle(
-    image: &mut [u8],
-    bus: &mut [u8],
-    storage: &mut [u8],
-    ba_high: u32,
-    cycle: u64,
-    ba_low: u32,
-    ba_high_phi1: u32,
-) -> u32
-    ensures { (result, image.new, bus.new, storage.new) ≡ reu_cycle image.old bus.old storage.old ba_high cycle ba_low ba_high_phi1 }
-{
-    match direct::moving_cycle(image, bus, storage, ba_high != 0, ba_high_phi1 != 0, cycle) {
+    match direct::cycle(image, bus, storage, ba_high != 0, ba_high_phi1 != 0, cycle) {
         Some(answer) => answer,
         None => plain_cycle(image, bus, storage, ba_high, cycle, ba_low, ba_high_phi1),
     }
