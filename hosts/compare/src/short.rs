@@ -38,16 +38,18 @@ fn steady(image: &Image, level: bool, ba_high_phi1: bool) -> bool {
     ba_high_phi1 == level && was_high == level
 }
 
-/// Whether nothing but the next byte is to be done: no byte to be repeated or read again, no tail, not the last one, and in
-/// a verify none that differs.
-fn goes_on(image: &Image, bus: &[u8], storage: &[u8]) -> bool {
-    let (addr, offset) = places(image);
-    let equal = bus[addr] == storage[offset];
+/// Whether nothing but the next byte is to be done: no byte to be repeated or read again, and no tail.
+fn moves(image: &Image) -> bool {
     image[IMAGE_FLAGS] & FLAG_RECALL_REPEAT == 0
         && image[IMAGE_MORE_FLAGS] & FLAG_REFRESH == 0
         && image[IMAGE_TRANSFER_FLAGS] & TRANSFER_TAIL == 0
-        && remaining(image) != 1
-        && (image[IMAGE_TYPE] != VERIFY || equal)
+}
+
+/// Whether the command goes on after the next byte: it is not the last one, and in a verify it does not differ.
+fn goes_on(image: &Image, bus: &[u8], storage: &[u8]) -> bool {
+    let (addr, offset) = places(image);
+    let equal = bus[addr] == storage[offset];
+    remaining(image) != 1 && (image[IMAGE_TYPE] != VERIFY || equal)
 }
 
 /// What a cycle does that moves the next byte of a transfer.
@@ -68,11 +70,13 @@ fn cycle(image: &Image, bus: &[u8], storage: &[u8], ba_high_phi1: bool) -> Optio
         None
     } else if !runs {
         Some(Way::Idle)
+    } else if !moves(image) {
+        None
     } else if steady(image, false, ba_high_phi1) {
         Some(Way::Hold)
     } else {
-        let moves = steady(image, true, ba_high_phi1) && goes_on(image, bus, storage);
-        moves.then(|| byte(image))
+        let done = steady(image, true, ba_high_phi1) && goes_on(image, bus, storage);
+        done.then(|| byte(image))
     }
 }
 

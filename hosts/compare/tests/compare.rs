@@ -166,26 +166,27 @@ fn each_cycle_takes_its_way() {
     }
 }
 
-/// What keeps a byte from its short way, a Hold and an idle cycle: only a delay and a terminal pair keep the last two.
+/// What keeps a byte from its short way, a Hold and an idle cycle: all but being the last byte keeps a Hold, and only a delay and
+/// a terminal pair an idle cycle.
 #[test]
 fn what_is_to_be_waited_for_takes_no_short_way() {
     let laid = [
-        (IMAGE_DELAY, 1, true),
-        (IMAGE_DELAY, 2, true),
-        (IMAGE_FLAGS, FLAG_TERMINAL_WRITE, true),
-        (IMAGE_FLAGS, FLAG_RECALL_REPEAT, false),
-        (IMAGE_MORE_FLAGS, FLAG_REFRESH, false),
-        (IMAGE_TRANSFER_FLAGS, TRANSFER_TAIL, false),
-        (IMAGE_REMAINING, 1, false),
+        (IMAGE_DELAY, 1, true, true),
+        (IMAGE_DELAY, 2, true, true),
+        (IMAGE_FLAGS, FLAG_TERMINAL_WRITE, true, true),
+        (IMAGE_FLAGS, FLAG_RECALL_REPEAT, true, false),
+        (IMAGE_MORE_FLAGS, FLAG_REFRESH, true, false),
+        (IMAGE_TRANSFER_FLAGS, TRANSFER_TAIL, true, false),
+        (IMAGE_REMAINING, 1, false, false),
     ];
-    for (place, byte, always) in laid {
+    for (place, byte, hold, idle) in laid {
         let with = |(call, mut image): (Call, Image), runs| {
             (image[IMAGE_TRANSFER], image[place]) = (runs, image[place] | byte);
             ways_of((call, image))[0]
         };
         assert!(with(cycle_with(STORE, true, true), 1).is_none(), "{place} {byte}");
-        assert!(with(cycle_with(STORE, false, false), 1).is_none() == always, "{place} {byte}");
-        assert!(with(cycle_with(STORE, true, false), 0).is_none() == always, "{place} {byte}");
+        assert!(with(cycle_with(STORE, false, false), 1).is_none() == hold, "{place} {byte}");
+        assert!(with(cycle_with(STORE, true, false), 0).is_none() == idle, "{place} {byte}");
     }
     let (call, mut image) = cycle_with(STORE, true, true);
     image[IMAGE_REMAINING..IMAGE_LATCH].copy_from_slice(&[1, 1]);
