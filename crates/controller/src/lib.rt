@@ -1,4 +1,5 @@
-// The MOS 8726 expansion controller as a value. Each public call tests what it is handed, and answers a refusal, changing nothing, or does its work.
+// The MOS 8726 expansion controller as a value. Each public call that answers a `Result` tests what it is handed, and answers a refusal, changing
+// nothing, or does its work. The others test nothing: what they are asked of has been tested, or may be anything.
 //
 // registers and reu are the original's files; dma, memory and timing are in the crate `transfer`, and what needs no more than the eleven
 // registers is in `regs`; each has its part of the original's constants. Four of reu.rs's functions have files of their own: start_dma,
@@ -7,9 +8,9 @@
 // Bus and storage stay two arguments, as the C interface lends them: with a struct of two slices each contract would have one clause more, that it
 // still lends the same two. So do BA's inputs and the cycle: they come one by one from the C interface, as from the original's callers.
 //
-// `#[inline(always)]` stands above functions of the step, and above a register's write, which a host calls beside it. A controller by value is
+// `#[inline(always)]` stands above functions of the step, and above a write of a register. A controller by value is
 // passed in memory, and a chain of calls that is not made one function copies it at each border; a call that stays one keeps it in memory
-// around the calls too. It stands only where the compiler does not make one function by itself, as tools/count-step counts it.
+// around the calls too. It stands only where the compiler does not make one function by itself, as tools/count-step and tools/count-instructions count it.
 #![tactic(auto)]
 
 mod bus_action;
@@ -22,6 +23,7 @@ mod reu;
 mod start_dma;
 mod tick_dma;
 
+pub use constants::BUS_BYTES;
 pub use cycle::step;
 pub use refusals::Refusal;
 pub use reu::{Answered, Reu, Step};

@@ -14,7 +14,7 @@ use Rattle.image.specs.Open.{image_ok}
 abbrev pub marked_at : List ℕ → Bool
 marked_at i = bool_eq (bit (at i status) version) (chip_mark (size_of (at i (place_of more_flags) / 4)))
 
--- byte 19 has the code of the size, the storage has it, and STATUS its mark
+-- byte 19 codes a size, which the lent storage has, and whose mark STATUS has
 pub record Sized (i : List ℕ) (storage : ℕ) : Type 0 where
   pub coded : at i (place_of more_flags) < 12
   pub fits : storage ≡ size_of (at i (place_of more_flags) / 4)
@@ -32,7 +32,7 @@ pub record Rests (u : Reu) : Type 0 where
   pub terminal : u.terminal_swap_write ≡ false
   pub delay : u.swap_read_delay ≡ 0
 
--- d runs, with no tail; no recall repeat, terminal pair, refresh or delay is left
+-- d runs, on attached storage, with no tail; no recall repeat, terminal pair, refresh or delay is left
 pub record Moves (u : Reu) (d : DmaState) : Type 0 where
   pub runs : u.dma ≡ Some d
   pub attached : u.attached ≡ true
@@ -42,6 +42,7 @@ pub record Moves (u : Reu) (d : DmaState) : Type 0 where
   pub delay : u.swap_read_delay ≡ 0
   pub tail : d.verify_tail ≡ false
 
+-- an image whose controller rests, and one whose transfer moves
 pub record Resting (i : List ℕ) (bus storage : ℕ) : Type 0 where
   pub lent : Lent i bus storage
   pub rests : Rests (reu_at i)

@@ -1,4 +1,4 @@
--- What the functions inside the crate may assume of what they are handed. No public contract cites this file.
+-- What the functions inside the crate may assume of what they are handed. No exported contract cites this file.
 use Rattle.std.specs.Prelude.{ℕ, zero, suc, ◌-◌, ◌<◌, List, [], ◌∷◌, take, drop, get_or}
 use Rattle.transfer.specs.Constants.{expansion_limit}
 use Rattle.transfer.specs.declared.dma.DmaState.{DmaState}

@@ -10,7 +10,7 @@ ghost use Rattle.image.specs.InPlace.{marked_at};
 use crate::layout;
 use crate::layout::IMAGE_BYTES;
 use controller::Reu;
-use regs::length_of;
+use regs::{STATUS, STATUS_VERSION, length_of};
 use transfer::{C64Address, DmaState, ExpansionAddress, SwapPhase, TransferType};
 
 // ---- the bytes of a field from its place on, and a number of two or three, the low byte first. A place is where a field starts, and not how
@@ -145,7 +145,7 @@ fn ranges_ok(image: &[u8; IMAGE_BYTES]) -> bool
         & (image[layout::OPTIONS] < 64)
 }
 
-// Without a transfer its fields are 0: a number is where each of its bytes is. The eleven bytes are looked at two and eight at a time.
+// Without a transfer its fields are 0: a number is where each of its bytes is. The eleven bytes are looked at two, eight and one at a time.
 fn idle_ok(image: &[u8; IMAGE_BYTES]) -> bool
     ensures { result ≡ all_zero (take transfer_fields (drop kind (lifted fields image.now))) }
 {
@@ -159,11 +159,11 @@ fn idle_ok(image: &[u8; IMAGE_BYTES]) -> bool
 fn marked(image: &[u8; IMAGE_BYTES]) -> bool
     ensures { result ≡ marked_at image.now }
 {
-    (image[layout::REGISTERS] & 0x10 != 0) == (image[layout::MORE_FLAGS] < 8)
+    (image[layout::REGISTERS + STATUS] & STATUS_VERSION != 0) == (image[layout::MORE_FLAGS] < 8)
 }
 
-// Whether an image is accepted: the one test of its bytes, for opening it and for what is done to it where it stands. Without a
-// transfer few of them are left to look at.
+// Whether an image is accepted: the test of its bytes for opening it, and for its registers where it stands. Without a transfer few are left to look
+// at. The two tests of a cycle look at fewer, from which this follows (`in_place::rests`, `moves`).
 #[inline(always)]
 #[tactic(auto, using(crate::proofs::Accepted::rest_ok, crate::proofs::Accepted::some_ok))]
 pub fn accepted(image: &[u8; IMAGE_BYTES]) -> bool

@@ -15,7 +15,7 @@ use Rattle.controller.specs.TickDma.{ticked}
 use Rattle.controller.specs.Cycle.{run_reu_cycle}
 use Rattle.controller.specs.Calls.{cycle_call, step_number}
 use Rattle.controller.proofs.Checked.{passed}
-use Rattle.image.specs.Layout.{image_size, shadow_c64, shadow_exp, shadow_length, flags, granted_field, flags_of, flag_bits, pack_image, reu_at}
+use Rattle.image.specs.Layout.{image_size, shadow_c64, shadow_exp, shadow_length, granted_field, pack_image, reu_at}
 use Rattle.image.specs.Inner.{gets, stored}
 use Rattle.image.specs.InPlace.{Lent}
 use Rattle.image.specs.Open.{image_ok}
@@ -25,7 +25,7 @@ use Rattle.image.proofs.Opening.{open_good}
 use Rattle.image.proofs.Unpacked.{pack_open, opened_typed, opened_well}
 use Rattle.reu.specs.declared.Logged.{Logged}
 use Rattle.reu.specs.Exports.{change_both}
-use Rattle.reu.specs.Direct.{transfer_in}
+use Rattle.reu.specs.Direct.{flagged, transfer_in}
 use Rattle.reu.proofs.Families.{both_done}
 
 module _ (i : List ℕ) (whole : Bytes i) (long : length i ≡ image_size) where
@@ -73,10 +73,6 @@ module _ (i : List ℕ) (whole : Bytes i) (long : length i ≡ image_size) where
           go : (m : Option DmaState) → Lays (listed m)
           go None = none
           go (Some d) = some d
-
-    -- the eight flags
-    abbrev flagged : List ℕ → Reu → List ℕ
-    flagged l r = stored flags l (flags_of (flag_bits r))
 
     -- a cycle that grants nothing leaves the history of BA
     pub history_laid : (was late : Bool) → flagged i (with_history u was late) ≡ pack_image (with_history u was late)

@@ -37,7 +37,7 @@ use borrow.Author.Tests.{leb-true}
 use Rattle.image.specs.Layout.{granted_field, image_size, reu_at}
 use Rattle.image.specs.Valid.{Bytes}
 use Rattle.reu.specs.Exports.{change_both}
-use Rattle.reu.specs.Direct.{remembered_in, transfer_in, byte_in, half_in, typed_in}
+use Rattle.reu.specs.Direct.{Advances, Holds, remembered_in, transfer_in, half_in, typed_in}
 use Rattle.reu.proofs.CycleLaws.{went_on, rest_step, hold_step, store_step, recall_step, swap_read_step, swap_write_step, verify_step}
 use Rattle.reu.proofs.InPlace.{settled, history_laid, half_laid, byte_laid}
 
@@ -89,9 +89,8 @@ module _ (i : List ℕ) (whole : Bytes i) (long : length i ≡ image_size) (m s 
         in_range : InRange d → Room d
         in_range k = k.addr
 
-    -- the processor is held
-    pub hold_way : u.ba_was_high ≡ false → (1, remembered_in i high false, m, s) ≡ called false
-    hold_way q =
+    held : u.ba_was_high ≡ false → (1, remembered_in i high false, m, s) ≡ called false
+    held q =
         ap (λ (l : List ℕ). (1, l, m, s)) (history_laid i whole long r.lent.ok false false)
         ∙ settled i whole long m s r.lent high false n low true neither None _ m s (hold_step u m s high n low d r.moves q)
 
@@ -131,6 +130,10 @@ module _ (i : List ℕ) (whole : Bytes i) (long : length i ≡ image_size) (m s 
         typed_way Swap k v = swap_way d.swap_phase k refl
         typed_way Verify k v = onward (moved d) (passed d) _ _ (verify_step u m s high n low d r.moves q more k (v refl))
 
-        pub byte_way : (d.transfer_type ≡ Verify → eqb (bus_byte m d.c64_addr) (storage_byte u.size s d.reu_addr) ≡ true)
-            → byte_in u.size d granted_in m s n ≡ called true
-        byte_way v = typed_way d.transfer_type refl v
+  -- the processor is held
+  pub hold_way : (phi1 : Bool) → Holds i m s phi1 → (1, remembered_in i high false, m, s) ≡ called phi1
+  hold_way phi1 h = held h.moving h.was ∙ ap called (sym h.low)
+
+  -- a byte is done, or one half of a swap's exchange
+  pub byte_way : (phi1 : Bool) → (h : Advances i m s phi1) → typed_in (transfer_at i).transfer_type u.size (transfer_at i) (granted_in h.moving) m s n ≡ called phi1
+  byte_way phi1 h = typed_way h.moving h.was h.more (transfer_at i).transfer_type refl h.equal ∙ ap called (sym h.high)

@@ -1,7 +1,7 @@
 -- What the short ways of the calls leave of an image where it stands. No exported contract cites this file.
 use Rattle.std.specs.Prelude.{◌≡◌, ◌&&◌, Option, None, Some}
 use Rattle.std.proofs.lemmas.List.Edits.{sets}
-use Rattle.controller.specs.Prelude.{ℕ, Bool, true, false, not, List, cond, eqb, ltb, set, Store, Recall, Swap, Verify, SwapPhase, ReadC64, WriteC64, TransferType, DmaState}
+use Rattle.controller.specs.Prelude.{ℕ, Bool, true, false, not, List, length, cond, eqb, ltb, set, Store, Recall, Swap, Verify, SwapPhase, ReadC64, WriteC64, TransferType, DmaState}
 use Rattle.controller.specs.declared.reu.Reu.{Reu}
 use Rattle.controller.specs.Reu.{with_history, with_irq}
 use Rattle.transfer.specs.Bytes.{bit}
@@ -14,15 +14,40 @@ use Rattle.regs.specs.FinishDma.{counters}
 use Rattle.image.specs.Fields.{laid}
 use Rattle.image.specs.Layout.{at, flag_bits, flags, flags_of, kind, place_of, reu_at, shadow_c64, shadow_exp, shadow_length, transfer_numbers}
 use Rattle.image.specs.Inner.{stored, transfer_part}
+use Rattle.image.specs.InPlace.{Moving, transfer_at}
 
 -- what a short way answers: none is taken and nothing has changed, or what is answered and left is what the call says
 abbrev pub Short : Option ℕ → (List ℕ × List ℕ × List ℕ) → (List ℕ × List ℕ × List ℕ) → (ℕ × List ℕ × List ℕ × List ℕ) → Type 0
 Short None old left call = left ≡ old
 Short (Some a) old left call = (a, left.0, left.1, left.2) ≡ call
 
+-- the eight flags of a controller
+abbrev pub flagged : List ℕ → Reu → List ℕ
+flagged i u = stored flags i (flags_of (flag_bits u))
+
+-- ---- a cycle of the image i, with the bus m and the storage s: when its short ways are taken. At rest it is `Resting`
+
+-- the processor is held: a transfer moves, and BA at PHI1 was low and is
+pub record Holds (i m s : List ℕ) (phi1 : Bool) : Type 0 where
+  pub moving : Moving i (length m) (length s)
+  pub was : (reu_at i).ba_was_high ≡ false
+  pub low : phi1 ≡ false
+
+-- a byte is done, or one half of a swap's exchange: BA at PHI1 was high and is, it is not the last byte, and of a verify the two bytes are equal
+pub record Advances (i m s : List ℕ) (phi1 : Bool) : Type 0 where
+  pub moving : Moving i (length m) (length s)
+  pub was : (reu_at i).ba_was_high ≡ true
+  pub high : phi1 ≡ true
+  pub more : eqb (transfer_at i).remaining 1 ≡ false
+  pub equal :
+      (transfer_at i).transfer_type ≡ Verify
+      → eqb (bus_byte m (transfer_at i).c64_addr) (storage_byte (reu_at i).size s (transfer_at i).reu_addr) ≡ true
+
+-- ---- what they leave
+
 -- the history of BA
 abbrev pub remembered_in : List ℕ → Bool → Bool → List ℕ
-remembered_in i high phi1 = stored flags i (flags_of (flag_bits (with_history (reu_at i) phi1 (phi1 && not high))))
+remembered_in i high phi1 = flagged i (with_history (reu_at i) phi1 (phi1 && not high))
 
 -- a transfer in its fields
 abbrev pub transfer_in : List ℕ → DmaState → List ℕ
@@ -50,14 +75,7 @@ typed_in Recall size d i m s cycle =
 typed_in Swap size d i m s cycle = half_in d.swap_phase size d i m s cycle
 typed_in Verify size d i m s cycle = with_memory (completed_in i d) m s
 
-abbrev pub byte_in : ℕ → DmaState → List ℕ → List ℕ → List ℕ → ℕ → (ℕ × List ℕ × List ℕ × List ℕ)
-byte_in size d i m s cycle = typed_in d.transfer_type size d i m s cycle
-
 -- ---- the registers
-
--- the eight flags of a controller
-abbrev pub flagged : List ℕ → Reu → List ℕ
-flagged i u = stored flags i (flags_of (flag_bits u))
 
 abbrev pub read_in : List ℕ → ℕ → (ℕ × List ℕ)
 read_in i k =
@@ -65,7 +83,7 @@ read_in i k =
     (cond (eqb k status) (at i status, flagged (set i status (acknowledged (at i status))) (with_irq (reu_at i) false)) (shown k (at i k), i))
     (unused_register, i)
 
--- a write of v begins a command
+-- a write of v begins a command, or would if storage were attached
 abbrev pub starts : ℕ → ℕ → Bool
 starts addr v = eqb (register_index addr) command && (bit v execute && bit v without_ff00)
 

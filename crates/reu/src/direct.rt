@@ -1,5 +1,5 @@
-// The short ways of the exported calls: what they do to an image where it stands, without opening it whole and laying it down whole. Each
-// says in its contract that it has done what the call does; where none is taken, nothing has changed, and the call goes the plain way.
+// Calls done on the image where it stands: it is not laid down anew, and of the controller that is read from it the compiler keeps what is used.
+// The calls on registers are whole. A cycle is done here where it has little to do; else the answer is None, nothing has changed, and it goes the plain way.
 ghost use Rattle.std.specs.Prelude.{◌≡◌, ◌&&◌, false, Bool, ℕ};
 ghost use Rattle.controller.specs.Calls.{cycle_call};
 ghost use Rattle.transfer.specs.Dma.{is_type};
@@ -7,7 +7,7 @@ ghost use Rattle.transfer.specs.Memory.{bus_byte, storage_byte};
 ghost use Rattle.controller.specs.Prelude.{Verify, eqb, not};
 ghost use Rattle.image.specs.Inner.{Room};
 ghost use Rattle.reu.specs.Exports.{change_both, reu_debug_register, reu_read, reu_write};
-ghost use Rattle.reu.specs.Direct.{Short, byte_in, completed_in, read_in, remembered_in, starts};
+ghost use Rattle.reu.specs.Direct.{Short, completed_in, read_in, remembered_in, starts, typed_in};
 
 use crate::refused;
 use controller::{Refusal, Reu};
@@ -78,7 +78,7 @@ pub(crate) fn read(image: &mut [u8], addr: u16) -> u32
     u32::from(read_at(fields, register_index(addr)))
 }
 
-// Whether a write begins a command: that changes more than the registers, their shadows and the flags.
+// Whether a write begins a command, or would if storage were attached: that changes more than the registers, their shadows and the flags.
 #[inline(always)]
 pub(crate) fn starts(addr: u16, value: u8) -> bool
     ensures { result ≡ starts addr value }
@@ -120,7 +120,7 @@ fn complete(image: &mut [u8; IMAGE_BYTES], d: DmaState) -> u32
     1 + u32::from(done.passed)
 }
 
-// A byte of a store, a recall or a verify, or half a byte of a swap.
+// A byte of a store, a recall or a verify, or one half of a swap's exchange.
 #[inline(always)]
 fn byte(
     image: &mut [u8; IMAGE_BYTES],
@@ -131,7 +131,7 @@ fn byte(
     cycle: u64,
 ) -> u32
     requires { Room d }
-    ensures { (result, image.new, bus.new, storage.new) ≡ byte_in size d image.old bus.old storage.old cycle }
+    ensures { (result, image.new, bus.new, storage.new) ≡ typed_in d.transfer_type size d image.old bus.old storage.old cycle }
 {
     match d.transfer_type {
         TransferType::Store => {
@@ -158,7 +158,7 @@ fn byte(
     }
 }
 
-// A verify whose bytes differ ends its command.
+// A verify whose bytes differ ends its command, or goes on to its tail: both go the plain way.
 #[inline(always)]
 fn differs(size: u32, d: DmaState, bus: &[u8], storage: &[u8]) -> bool
     ensures { result ≡ is_type d.transfer_type Verify && not (eqb (bus_byte bus.now d.c64_addr) (storage_byte size storage.now d.reu_addr)) }
@@ -172,7 +172,7 @@ fn differs(size: u32, d: DmaState, bus: &[u8], storage: &[u8]) -> bool
 
 // ---- the cycle
 
-// BA's level at PHI1 and whether its fall came late are all that a cycle leaves that is not granted.
+// What every cycle leaves: BA's level at PHI1, and whether its fall came late.
 #[inline(always)]
 fn remember(image: &mut [u8; IMAGE_BYTES], ba_high: bool, ba_high_phi1: bool)
     ensures { image.new ≡ remembered_in image.old ba_high ba_high_phi1 }
@@ -186,7 +186,7 @@ fn remember(image: &mut [u8; IMAGE_BYTES], ba_high: bool, ba_high_phi1: bool)
     in_place::set_flags(image, next);
 }
 
-// With no transfer.
+// With no transfer: the processor has the bus.
 #[inline(always)]
 #[tactic(auto, using(crate::proofs::Ways::rest_way, crate::proofs::Families::bytes_of))]
 fn rest(

@@ -322,7 +322,7 @@ pub extern "C" fn reu_run_reu_cycle(
     }
 }
 
-// The plain way, which every image can go.
+// The plain way, which every image can go. It stays a function of its own: within the call it would take registers that an idle cycle would have to save.
 #[inline(never)]
 fn plain_cycle(
     image: &mut [u8],

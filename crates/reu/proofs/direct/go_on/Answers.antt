@@ -1,5 +1,4 @@
-use Rattle.std.proofs.Common.{◌≡◌, ℕ, ◌+◌, ◌<◌, List, Bool, true, false, rules, ap, ap₂, sym, subst, ◌∙◌, eqb, ne_eqb, not, ◌&&◌}
-use Rattle.controller.specs.Calls.{cycle_call}
+use Rattle.std.proofs.Common.{◌≡◌, ℕ, ◌+◌, ◌<◌, List, true, false, rules, ap, ap₂, sym, subst, ◌∙◌, eqb, ne_eqb, not, ◌&&◌}
 use Rattle.controller.specs.declared.reu.Reu.{Reu}
 use Rattle.transfer.specs.Dma.{is_type}
 use Rattle.transfer.specs.Memory.{bus_byte, storage_byte}
@@ -7,8 +6,7 @@ use Rattle.transfer.specs.declared.dma.DmaState.{DmaState}
 use Rattle.transfer.specs.declared.dma.TransferType.TheVariants.{Verify}
 use Rattle.image.specs.Inner.{stored}
 use Rattle.image.specs.Layout.{granted_field, reu_at}
-use Rattle.reu.specs.Exports.{change_both}
-use Rattle.reu.specs.Direct.{byte_in, remembered_in}
+use Rattle.reu.specs.Direct.{remembered_in, typed_in}
 use Rattle.controller.specs.Cycle.{capped}
 use Rattle.image.specs.InPlace.{transfer_at}
 use Rattle.reu.proofs.Families.{bytes_of}
@@ -24,8 +22,8 @@ returns-then-not-ba_high_phi1 c =
     let was : (reu_at i).ba_was_high ≡ false =
     sym (ap (λ (u : Reu). u.ba_was_high) c.controller_at-reu.ensures) ∙ sym (same_level _ _ c.if-ba_high_phi1-reu.false) ∙ low_now in
     λ low. ap (λ (l : List ℕ). (1, l, m, s)) c.remember.ensures
-    ∙ subst (λ (p : Bool). (1, remembered_in i c.args.ba_high false, m, s) ≡ change_both (λ u b t. cycle_call u b t c.args.ba_high p c.args.cycle low) i m s) (sym low_now)
-    (hold_way i (bytes_of i (λ j. search rules)) c.told-image m s c.args.ba_high c.args.cycle low (c.moves.ensures c.if-not-moves.false) was)
+    ∙ hold_way i (bytes_of i (λ j. search rules)) c.told-image m s c.args.ba_high c.args.cycle low c.args.ba_high_phi1
+    (record { moving = c.moves.ensures c.if-not-moves.false; was = was; low = low_now })
 
 pub byte-requires : goal.byte-requires
 byte-requires c =
@@ -54,6 +52,6 @@ returns c =
     c.set_granted.ensures
     ∙ ap₂ (stored granted_field) c.remember-2.ensures
     (c.saturating_add.ensures ∙ held_count _ ∙ ap (λ (v : Reu). capped (v.granted_cycles + 1)) c.controller_at-reu.ensures) in
-    λ low. c.byte.ensures ∙ (λ j. byte_in (size j) (same j) (counted j) m s c.args.cycle)
-    ∙ byte_way i (bytes_of i (λ j. search rules)) c.told-image m s c.args.ba_high c.args.cycle low r was more (agrees _ _ found)
-    ∙ ap (λ (p : Bool). change_both (λ v b t. cycle_call v b t c.args.ba_high p c.args.cycle low) i m s) (sym high_now)
+    λ low. c.byte.ensures ∙ (λ j. typed_in (same j).transfer_type (size j) (same j) (counted j) m s c.args.cycle)
+    ∙ byte_way i (bytes_of i (λ j. search rules)) c.told-image m s c.args.ba_high c.args.cycle low c.args.ba_high_phi1
+    (record { moving = r; was = was; high = high_now; more = more; equal = agrees _ _ found })
