@@ -13,7 +13,6 @@ pub struct Ba {
 
 impl Ba {
     pub const HIGH: Ba = Ba { high: 1, low: 0, high_phi1: 1 };
-    pub const LOW: Ba = Ba { high: 0, low: 1, high_phi1: 0 };
 }
 
 /// BA low: on every eighth line of the text from cycle 12 to 54, and for a sprite of 21 lines from cycle 55 to 59.

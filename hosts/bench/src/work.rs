@@ -5,6 +5,9 @@ use crate::sides::Side;
 use reu::{PASSED_C64, PASSED_EXPANSION};
 use std::hint::black_box;
 
+/// A cycle with BA low.
+const LOW: Ba = Ba { high: 0, low: 1, high_phi1: 0 };
+
 /// A kind of work. `Mix` comes first: it is what the ratio is about. Those behind `CapacityBytes` are counted and not timed.
 #[derive(Clone, Copy, Debug, PartialEq)]
 pub enum Work {
@@ -160,7 +163,7 @@ pub fn run<S: Side>(side: &mut S, work: Work, count: u64) -> Answers {
         Work::Swap => transfer(side, count, 0x92, &[Ba::HIGH]),
         Work::SwapUnderBa => transfer(side, count, 0x92, &screen::frame()),
         Work::Verify => transfer(side, count, 0x93, &[Ba::HIGH]),
-        Work::Hold => transfer(side, count, 0x90, &[Ba::LOW]),
+        Work::Hold => transfer(side, count, 0x90, &[LOW]),
         Work::Read => repeat(side, count, |side, number| side.read(0xDF00 + (number % 11) as u16)),
         Work::Write => repeat(side, count, |side, number| side.write(0xDF02 + (number % 7) as u16, number as u8)),
         Work::DebugRegister => repeat(side, count, |side, number| side.debug_register(number % 11)),
