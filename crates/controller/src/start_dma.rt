@@ -25,7 +25,6 @@ impl Reu {
 
     // With storage the count of granted cycles begins anew. Without it only bit 7 of COMMAND falls.
     #[tactic(auto, unfolding(crate::specs::StartDma::start_dma))]
-    #[inline(always)]
     pub(crate) fn start_dma(self) -> Reu
         ensures { result ≡ start_dma self }
     {
