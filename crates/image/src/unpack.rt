@@ -1,5 +1,6 @@
 // The controller that an image holds, field by field, and whether each field is in its range.
-ghost use Rattle.std.specs.Prelude.{◌≡◌, ◌+◌, ◌≤◌, drop, take};
+ghost use Rattle.std.specs.Prelude.{◌≡◌, ◌+◌, ◌≤◌, ◌&&◌, drop, take};
+ghost use Rattle.controller.specs.Refusals.{well_formed};
 ghost use Rattle.image.specs.Radix.{below, joined};
 ghost use Rattle.image.specs.Fields.{lifted, radices, values};
 ghost use Rattle.image.specs.Layout.{dma_in, fields, image_size, kind, phase_of, reu_at, size_of, transfer_fields, transfer_of};
@@ -162,6 +163,15 @@ fn marked(image: &[u8; IMAGE_BYTES]) -> bool
     (image[layout::REGISTERS + STATUS] & STATUS_VERSION != 0) == (image[layout::MORE_FLAGS] < 8)
 }
 
+// The ranges and the controller's own tests, of an image with a transfer. It stays a function of its own: within the test of an image it would take
+// registers that an image without one would have to save.
+#[inline(never)]
+fn running_ok(image: &[u8; IMAGE_BYTES]) -> bool
+    ensures { result ≡ below (values fields) (lifted fields image.now) && well_formed (reu_at image.now) }
+{
+    ranges_ok(image) && controller_at(image).well_formed()
+}
+
 // Whether an image is accepted: the test of its bytes for opening it, and for its registers where it stands. Without a transfer few are left to look
 // at. The two tests of a cycle look at fewer, from which this follows (`in_place::rests`, `moves`).
 #[inline(always)]
@@ -173,8 +183,5 @@ pub fn accepted(image: &[u8; IMAGE_BYTES]) -> bool
         let ranges = (image[layout::MORE_FLAGS] < 12) & (image[layout::DELAY] < 3);
         return idle_ok(image) & (ranges & marked(image));
     }
-    if !ranges_ok(image) {
-        return false;
-    }
-    controller_at(image).well_formed()
+    running_ok(image)
 }
