@@ -2,7 +2,7 @@
 use Rattle.std.proofs.Common.{◌≡◌, ◌&&◌, ℕ, ◌<◌, Bool, true, false, cond, List, length, set, refl, sym, ap, ◌∙◌, subst, arith}
 use Rattle.std.proofs.Math.Dec.{ltb, eqb}
 use Rattle.std.proofs.lemmas.List.{get_or-take}
-use borrow.Author.Tests.{ltb-true}
+use borrow.Author.Tests.{eq-eqb, ltb-true}
 use mathlib.Core.Bool.{false≢true}
 use Rattle.std.specs.Prelude.{Ok}
 use Rattle.transfer.specs.Constants.{command, execute, expansion_limit, register_count, status, unused_register, without_ff00}
@@ -13,7 +13,8 @@ use Rattle.controller.specs.declared.refusals.Refusal.TheVariants.{Length, Field
 use Rattle.controller.specs.declared.reu.Reu.{Reu}
 use Rattle.controller.specs.declared.reu.Answered.{Answered}
 use Rattle.controller.specs.Answers.{Answer}
-use Rattle.controller.specs.Reu.{reg, set_reg, with_irq}
+use Rattle.controller.specs.Reu.{reg, set_reg, with_armed, with_irq}
+use Rattle.controller.specs.StartDma.{start_dma}
 use Rattle.controller.specs.Refusals.{well_formed}
 use Rattle.controller.specs.FinishDma.{update_irq}
 use Rattle.controller.specs.Registers.{debug_register, read_at, read_register, write_command, write_register}
@@ -61,6 +62,18 @@ module _ (u : Reu) (a v : ℕ) (quiet : starts a v ≡ false) where
   command_kept k =
       choose (bit v execute) _ _
       (λ e. by_test (Kept u) (bit v without_ff00) _ _ (λ f. absurd (false≢true (sym quiet ∙ (λ j. k j && (e j && f j))))) (λ _. plain _ refl)) (plain _ refl)
+
+  -- a write of COMMAND arms or disarms
+  module _ (k : register_index a ≡ command) where
+    armed : (e f : Bool) → bit v execute ≡ e → bit v without_ff00 ≡ f
+        → with_armed (set_reg u command v) e ≡ cond e (cond f (start_dma (with_armed (set_reg u command v) false)) (with_armed (set_reg u command v) true)) (with_armed (set_reg u command v) false)
+    armed true true e f = absurd (false≢true (sym quiet ∙ (λ j. eq-eqb (register_index a) command k j && (e j && f j))))
+    armed true false e f = refl
+    armed false f e g = refl
+
+    pub armed_is : with_armed (set_reg u command v) (bit v execute) ≡ write_register u a v
+    unfolding write_register write_command
+    armed_is = rw (eq-eqb (register_index a) command k) (armed (bit v execute) (bit v without_ff00) refl refl)
 
   write_kept : Kept u (write_register u a v)
   unfolding write_register update_irq

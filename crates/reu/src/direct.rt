@@ -2,6 +2,7 @@
 // The calls on registers are whole. A cycle is done here where it has little to do; else the answer is None, nothing has changed, and it goes the plain way.
 ghost use Rattle.std.specs.Prelude.{◌≡◌, ◌&&◌, false, Bool, ℕ};
 ghost use Rattle.controller.specs.Calls.{cycle_call};
+ghost use Rattle.controller.specs.Registers.{write_register};
 ghost use Rattle.transfer.specs.Dma.{is_type};
 ghost use Rattle.transfer.specs.Memory.{bus_byte, storage_byte};
 ghost use Rattle.controller.specs.Prelude.{Verify, eqb, not};
@@ -87,6 +88,21 @@ pub(crate) fn starts(addr: u16, value: u8) -> bool
         & ((value & COMMAND_EXECUTE != 0) & (value & COMMAND_FF00_DISABLE != 0))
 }
 
+// A write that begins no command. COMMAND is set here: by `write_register` a start would stay in the compiled code, though none is left.
+#[tactic(auto, using(crate::proofs::RegisterLaws::armed_is))]
+#[inline(always)]
+fn written(mut reu: Reu, addr: u16, value: u8) -> Reu
+    requires { starts addr value ≡ false }
+    ensures { result ≡ write_register reu addr value }
+{
+    if register_index(addr) != COMMAND {
+        return reu.write_register(addr, value);
+    }
+    reu.regs[COMMAND] = value;
+    reu.waiting_ff00 = value & COMMAND_EXECUTE != 0;
+    reu
+}
+
 #[tactic(auto, using(crate::proofs::RegisterLaws::change_other, crate::proofs::RegisterLaws::change_bad))]
 #[inline(always)]
 pub(crate) fn write(image: &mut [u8], addr: u16, value: u8) -> u32
@@ -99,7 +115,7 @@ pub(crate) fn write(image: &mut [u8], addr: u16, value: u8) -> u32
     if !unpack::accepted(fields) {
         return refused(Refusal::Field);
     }
-    let reu = unpack::controller_at(fields).write_register(addr, value);
+    let reu = written(unpack::controller_at(fields), addr, value);
     in_place::set_registers(fields, reu);
     in_place::set_flags(fields, reu);
     0

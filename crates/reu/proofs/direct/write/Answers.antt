@@ -6,9 +6,9 @@ use Rattle.reu.proofs.direct.write.Goals as goal
 pub set_registers-requires : goal.set_registers-requires
 set_registers-requires c =
     let i = c.args.image.now in
-    write_room i (search rules) (search rules) (bytes_of i (λ j. search rules)) c.args.addr c.args.value (search rules) c.write_register-reu.result (search rules)
+    write_room i (search rules) (search rules) (bytes_of i (λ j. search rules)) c.args.addr c.args.value (search rules) c.written-reu.result (search rules)
 
 pub returns : goal.returns
 returns c =
     let i = c.args.image.now in
-    write_done i (search rules) (search rules) (bytes_of i (λ j. search rules)) c.args.addr c.args.value (search rules) c.write_register-reu.result (search rules) (search rules) _ (search rules)
+    write_done i (search rules) (search rules) (bytes_of i (λ j. search rules)) c.args.addr c.args.value (search rules) c.written-reu.result (search rules) (search rules) _ (search rules)
