@@ -48,11 +48,10 @@ abbrev pub write_bank : Reu → ℕ → Reu
 write_bank u bank =
     with_shadows (set_reg u exp_bank bank) u.shadow_c64_addr (with_bank u.shadow_reu_addr bank) u.shadow_len
 
--- "Mask is stored and read OR $1F, control OR $3F"; "Writes [of STATUS] are ignored"; "Index 11 to 31 .. ignores writes"
-abbrev pub write_at : Reu → ℕ → ℕ → Reu
-write_at u i v =
-    cond (eqb i command) (write_command u v)
-    (cond (eqb i c64_low) (write_c64 u (with_low u.shadow_c64_addr v))
+-- any register but COMMAND. "Mask is stored and read OR $1F, control OR $3F"; "Writes [of STATUS] are ignored"; "Index 11 to 31 .. ignores writes"
+abbrev pub write_other : Reu → ℕ → ℕ → Reu
+write_other u i v =
+    cond (eqb i c64_low) (write_c64 u (with_low u.shadow_c64_addr v))
     (cond (eqb i c64_high) (write_c64 u (with_high u.shadow_c64_addr v))
     (cond (eqb i exp_low) (write_exp u (with_low u.shadow_reu_addr v))
     (cond (eqb i exp_high) (write_exp u (with_high u.shadow_reu_addr v))
@@ -60,7 +59,10 @@ write_at u i v =
     (cond (eqb i length_low) (write_len u (with_low u.shadow_len v))
     (cond (eqb i length_high) (write_len u (with_high u.shadow_len v))
     (cond (eqb i interrupt_mask) (update_irq (set_reg u interrupt_mask (shown interrupt_mask v)))
-    (cond (eqb i address_control) (set_reg u address_control (shown address_control v)) u)))))))))
+    (cond (eqb i address_control) (set_reg u address_control (shown address_control v)) u))))))))
+
+abbrev pub write_at : Reu → ℕ → ℕ → Reu
+write_at u i v = cond (eqb i command) (write_command u v) (write_other u i v)
 
 unfoldable pub write_register : Reu → ℕ → ℕ → Reu
 write_register u addr v = write_at u (register_index addr) v

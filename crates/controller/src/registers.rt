@@ -4,7 +4,7 @@ ghost use Rattle.transfer.specs.Constants.{address_control, interrupt_mask};
 ghost use Rattle.regs.specs.Registers.{shown};
 ghost use Rattle.controller.specs.Reu.{set_reg};
 ghost use Rattle.controller.specs.FinishDma.{update_irq};
-ghost use Rattle.controller.specs.Registers.{debug_register, load_pair, read_register, write_bank, write_c64, write_command, write_exp, write_len, write_register};
+ghost use Rattle.controller.specs.Registers.{debug_register, load_pair, read_register, write_bank, write_c64, write_command, write_exp, write_len, write_other, write_register};
 
 use crate::reu::{Answered, Reu};
 use regs::{
@@ -35,7 +35,6 @@ impl Reu {
 
     // With bit 7 a command begins at once, or is armed for the access to $FF00.
     #[tactic(auto, unfolding(crate::specs::Registers::write_command))]
-    #[inline(always)]
     fn write_command(mut self, value: u8) -> Reu
         ensures { result ≡ write_command self value }
     {
@@ -107,16 +106,13 @@ impl Reu {
         self
     }
 
-    // By the register's number, as its address has it. `as u16` drops nothing: what becomes of a shadow of 16 bits has
-    // 16. By its two bytes there would be a second way beside the one that an expansion address takes.
-    #[tactic(auto, unfolding(crate::specs::Registers::write_register))]
+    // Any register but COMMAND, by its number. `as u16` drops nothing: what becomes of a shadow of 16 bits has 16. By its two bytes there would
+    // be a second way beside the one that an expansion address takes.
     #[inline(always)]
-    pub fn write_register(self, addr: u16, value: u8) -> Reu
-        ensures { result ≡ write_register self addr value }
+    pub fn write_other(self, index: usize, value: u8) -> Reu
+        ensures { result ≡ write_other self index value }
     {
-        let index = register_index(addr);
         match index {
-            COMMAND => self.write_command(value),
             C64_ADDRESS_LOW => self.write_c64(
                 with_low(u32::from(self.shadow_c64_addr), value) as u16,
             ),
@@ -135,6 +131,20 @@ impl Reu {
             INTERRUPT_MASK => self.write_mask(value),
             ADDRESS_CONTROL => self.write_control(value),
             _ => self,
+        }
+    }
+
+    // By the register's number, as its address has it.
+    #[tactic(auto, unfolding(crate::specs::Registers::write_register))]
+    #[inline(always)]
+    pub(crate) fn write_register(self, addr: u16, value: u8) -> Reu
+        ensures { result ≡ write_register self addr value }
+    {
+        let index = register_index(addr);
+        if index == COMMAND {
+            self.write_command(value)
+        } else {
+            self.write_other(index, value)
         }
     }
 

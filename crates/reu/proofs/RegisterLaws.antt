@@ -2,7 +2,7 @@
 use Rattle.std.proofs.Common.{◌≡◌, ◌&&◌, ℕ, ◌<◌, Bool, true, false, cond, List, length, set, refl, sym, ap, ◌∙◌, subst, arith}
 use Rattle.std.proofs.Math.Dec.{ltb, eqb}
 use Rattle.std.proofs.lemmas.List.{get_or-take}
-use borrow.Author.Tests.{eq-eqb, ltb-true}
+use borrow.Author.Tests.{eq-eqb, ne_eqb, ltb-true}
 use mathlib.Core.Bool.{false≢true}
 use Rattle.std.specs.Prelude.{Ok}
 use Rattle.transfer.specs.Constants.{command, execute, expansion_limit, register_count, status, unused_register, without_ff00}
@@ -17,7 +17,7 @@ use Rattle.controller.specs.Reu.{reg, set_reg, with_armed, with_irq}
 use Rattle.controller.specs.StartDma.{start_dma}
 use Rattle.controller.specs.Refusals.{well_formed}
 use Rattle.controller.specs.FinishDma.{update_irq}
-use Rattle.controller.specs.Registers.{debug_register, read_at, read_register, write_command, write_register}
+use Rattle.controller.specs.Registers.{write_other, debug_register, read_at, read_register, write_command, write_register}
 use Rattle.controller.specs.Calls.{debug_register_call, read_call, write_call}
 use Rattle.image.specs.Layout.{at, image_size, pack_image, reu_at}
 use Rattle.image.specs.Open.{image_ok}
@@ -74,6 +74,11 @@ module _ (u : Reu) (a v : ℕ) (quiet : starts a v ≡ false) where
     pub armed_is : with_armed (set_reg u command v) (bit v execute) ≡ write_register u a v
     unfolding write_register write_command
     armed_is = rw (eq-eqb (register_index a) command k) (armed (bit v execute) (bit v without_ff00) refl refl)
+
+  -- a write of another register
+  pub other_is : (register_index a ≡ command → ⊥) → write_other u (register_index a) v ≡ write_register u a v
+  unfolding write_register
+  other_is k = rw (ne_eqb (register_index a) command k) refl
 
   write_kept : Kept u (write_register u a v)
   unfolding write_register update_irq

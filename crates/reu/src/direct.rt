@@ -88,15 +88,16 @@ pub(crate) fn starts(addr: u16, value: u8) -> bool
         & ((value & COMMAND_EXECUTE != 0) & (value & COMMAND_FF00_DISABLE != 0))
 }
 
-// A write that begins no command. COMMAND is set here: by `write_register` a start would stay in the compiled code, though none is left.
-#[tactic(auto, using(crate::proofs::RegisterLaws::armed_is))]
+// A write that begins no command: COMMAND arms, or disarms.
+#[tactic(auto, using(crate::proofs::RegisterLaws::armed_is, crate::proofs::RegisterLaws::other_is))]
 #[inline(always)]
 fn written(mut reu: Reu, addr: u16, value: u8) -> Reu
     requires { starts addr value ≡ false }
     ensures { result ≡ write_register reu addr value }
 {
-    if register_index(addr) != COMMAND {
-        return reu.write_register(addr, value);
+    let index = register_index(addr);
+    if index != COMMAND {
+        return reu.write_other(index, value);
     }
     reu.regs[COMMAND] = value;
     reu.waiting_ff00 = value & COMMAND_EXECUTE != 0;
