@@ -35,6 +35,7 @@ impl Reu {
 
     // With bit 7 a command begins at once, or is armed for the access to $FF00.
     #[tactic(auto, unfolding(crate::specs::Registers::write_command))]
+    #[inline(always)]
     fn write_command(mut self, value: u8) -> Reu
         ensures { result ≡ write_command self value }
     {
