@@ -70,16 +70,16 @@ module _ (s : List ℕ) (long : length s ≡ image_size) where
 -- ---- without a transfer: bytes that are all 0 say fields that are
 
 -- the numbers of these fields, and a number of a transfer's eight bytes from its C64 address on
-abbrev number_c64 : List ℕ → ℕ
+abbrev pub number_c64 : List ℕ → ℕ
 number_c64 s = at s 24 + 256 * at s 25
 
-abbrev number_exp : List ℕ → ℕ
+abbrev pub number_exp : List ℕ → ℕ
 number_exp s = at s 26 + 256 * (at s 27 + 256 * at s 28)
 
-abbrev number_left : List ℕ → ℕ
+abbrev pub number_left : List ℕ → ℕ
 number_left s = at s 29 + 256 * at s 30
 
-abbrev all_seven : List ℕ → Bool
+abbrev pub all_seven : List ℕ → Bool
 all_seven s =
     eqb (at s 22) 0 && (eqb (at s 23) 0
     && (eqb (number_c64 s) 0 && (eqb (number_exp s) 0 && (eqb (number_left s) 0 && (eqb (at s 31) 0 && (eqb (at s 32) 0 && true))))))
@@ -102,30 +102,37 @@ seven_zeros s h =
       eqb-true _ 0 (and_left (eqb (at s 32) 0) true r6),
     )
 
--- all of them are 0 where the bytes are, looked at two, eight and one at a time
-pub idle_bytes : (s : List ℕ) → eqb (at s 22 + 256 * at s 23) 0 && (eqb (from_le_bytes w64 (gets 24 8 s)) 0 && eqb (at s 32) 0)
-    ≡ all_zero (take transfer_fields (drop kind (lifted fields (gets 0 image_size s))))
-idle_bytes s = both_ways (eqb (at s 22 + 256 * at s 23) 0 && (eqb (from_le_bytes w64 (gets 24 8 s)) 0 && eqb (at s 32) 0)) (all_seven s) to from
-  where
-    to : eqb (at s 22 + 256 * at s 23) 0 && (eqb (from_le_bytes w64 (gets 24 8 s)) 0 && eqb (at s 32) 0) ≡ true → all_seven s ≡ true
-    to h =
-        let a = eqb-true _ 0 (and_left (eqb (at s 22 + 256 * at s 23) 0) _ h) in
-        let r = and_right (eqb (at s 22 + 256 * at s 23) 0) _ h in
-        let b = eqb-true _ 0 (and_left (eqb (from_le_bytes w64 (gets 24 8 s)) 0) _ r) in
-        let c = and_right (eqb (from_le_bytes w64 (gets 24 8 s)) 0) _ r in
-        λ i. eq-eqb (at s 22) 0 (omega (arith, a)) i
-        && (eq-eqb (at s 23) 0 (omega (arith, a)) i
-        && (eq-eqb (number_c64 s) 0 (omega (arith, b)) i
-        && (eq-eqb (number_exp s) 0 (omega (arith, b)) i
-        && (eq-eqb (number_left s) 0 (omega (arith, b)) i
-        && (eq-eqb (at s 31) 0 (omega (arith, b)) i
-        && (c i && true))))))
+pub all_zeros : (s : List ℕ) → at s 22 ≡ 0 → at s 23 ≡ 0 → number_c64 s ≡ 0 → number_exp s ≡ 0 → number_left s ≡ 0 → at s 31 ≡ 0 → at s 32 ≡ 0
+    → all_seven s ≡ true
+all_zeros s a b c e l h o =
+    λ i. eq-eqb (at s 22) 0 a i
+    && (eq-eqb (at s 23) 0 b i
+    && (eq-eqb (number_c64 s) 0 c i
+    && (eq-eqb (number_exp s) 0 e i && (eq-eqb (number_left s) 0 l i && (eq-eqb (at s 31) 0 h i && (eq-eqb (at s 32) 0 o i && true))))))
 
-    from : all_seven s ≡ true → eqb (at s 22 + 256 * at s 23) 0 && (eqb (from_le_bytes w64 (gets 24 8 s)) 0 && eqb (at s 32) 0) ≡ true
+-- the twelve bytes from the transfer's presence on, looked at as eight and eight
+abbrev pub front : List ℕ → ℕ
+front s = from_le_bytes w64 (gets 21 8 s)
+
+abbrev pub back : List ℕ → ℕ
+back s = from_le_bytes w64 (gets 25 8 s)
+
+-- they are all 0 where there is no transfer and its fields are
+pub idle_bytes : (s : List ℕ) → eqb (front s) 0 && eqb (back s) 0 ≡ eqb (at s 21) 0 && all_seven s
+idle_bytes s = both_ways (eqb (front s) 0 && eqb (back s) 0) (eqb (at s 21) 0 && all_seven s) to from
+  where
+    to : eqb (front s) 0 && eqb (back s) 0 ≡ true → eqb (at s 21) 0 && all_seven s ≡ true
+    to h =
+        let a = eqb-true (front s) 0 (and_left (eqb (front s) 0) _ h) in
+        let b = eqb-true (back s) 0 (and_right (eqb (front s) 0) _ h) in
+        λ i. eq-eqb (at s 21) 0 (omega (arith, a)) i
+        && all_zeros s (omega (arith, a)) (omega (arith, a)) (omega (arith, a)) (omega (arith, a, b)) (omega (arith, b)) (omega (arith, b)) (omega (arith, b)) i
+
+    from : eqb (at s 21) 0 && all_seven s ≡ true → eqb (front s) 0 && eqb (back s) 0 ≡ true
     from h =
-        let e = seven_zeros s h in
-        λ i. eq-eqb (at s 22 + 256 * at s 23) 0 (omega (arith, e.0, e.1)) i
-        && (eq-eqb (from_le_bytes w64 (gets 24 8 s)) 0 (omega (arith, e.2, e.3, e.4, e.5)) i && eq-eqb (at s 32) 0 e.6 i)
+        let n = eqb-true (at s 21) 0 (and_left (eqb (at s 21) 0) _ h) in
+        let e = seven_zeros s (and_right (eqb (at s 21) 0) _ h) in
+        λ i. eq-eqb (front s) 0 (omega (arith, n, e.0, e.1, e.2, e.3)) i && eq-eqb (back s) 0 (omega (arith, e.2, e.3, e.4, e.5, e.6)) i
 
 -- ---- packing: what the stores of the fields leave of a list of the image's length
 

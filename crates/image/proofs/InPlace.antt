@@ -24,7 +24,7 @@ use Rattle.image.specs.Layout.{at, fields, kind, transfer_fields, image_size, si
 use Rattle.image.specs.Open.{all_zero, image_ok}
 use Rattle.image.specs.Fields.{lifted}
 use Rattle.image.specs.InPlace.{Lent, Rests, Resting, Moves, Moving, Sized, transfer_at}
-use Rattle.image.proofs.ByBytes.{ranges_are, listed, zeros, idle_bytes, more_byte}
+use Rattle.image.proofs.ByBytes.{ranges_are, listed, zeros, all_zeros, more_byte}
 use Rattle.transfer.proofs.Bits.{zero_bit}
 use Rattle.image.proofs.Accepted.{rest_ok, some_ok}
 use Rattle.image.proofs.Words.{masked, whole_byte, bit_seen, below_four, below_two}
@@ -92,8 +92,8 @@ module _ (s : List ℕ) (long : length s ≡ image_size) (b : (i : ℕ) → get_
 
       zero_fields : zeros s long ≡ true
       zero_fields =
-          ap (λ (l : List ℕ). all_zero (take transfer_fields (drop kind (lifted fields l)))) (sym (listed s long)) ∙ sym (idle_bytes s)
-          ∙ (λ i. eq-eqb (at s 22 + 256 * at s 23) 0 types i && (eq-eqb (from_le_bytes w64 (gets 24 8 s)) 0 z i && eq-eqb (at s 32) 0 o i))
+          ap (λ (l : List ℕ). all_zero (take transfer_fields (drop kind (lifted fields l)))) (sym (listed s long))
+          ∙ all_zeros s (omega (arith, types)) (omega (arith, types)) (omega (arith, z)) (omega (arith, z)) (omega (arith, z)) (omega (arith, z)) o
 
       rest_accepted : image_ok s ≡ true
       rest_accepted =

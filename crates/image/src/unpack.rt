@@ -1,9 +1,10 @@
 // The controller that an image holds, field by field, and whether each field is in its range.
 ghost use Rattle.std.specs.Prelude.{◌≡◌, ◌+◌, ◌≤◌, ◌&&◌, drop, take};
+ghost use Rattle.controller.specs.Prelude.{eqb};
 ghost use Rattle.controller.specs.Refusals.{well_formed};
 ghost use Rattle.image.specs.Radix.{below, joined};
 ghost use Rattle.image.specs.Fields.{lifted, radices, values};
-ghost use Rattle.image.specs.Layout.{dma_in, fields, image_size, kind, phase_of, reu_at, size_of, transfer_fields, transfer_of};
+ghost use Rattle.image.specs.Layout.{at, dma_in, fields, image_size, kind, phase_of, reu_at, size_of, transfer_fields, transfer_of};
 ghost use Rattle.image.specs.Inner.{gets};
 ghost use Rattle.image.specs.Open.{all_zero, image_ok};
 ghost use Rattle.image.specs.InPlace.{marked_at};
@@ -146,13 +147,13 @@ fn ranges_ok(image: &[u8; IMAGE_BYTES]) -> bool
         & (image[layout::OPTIONS] < 64)
 }
 
-// Without a transfer its fields are 0: a number is where each of its bytes is. The eleven bytes are looked at two, eight and one at a time.
+// There is no transfer, and its fields are 0: a number is where each of its bytes is. The twelve bytes are looked at as eight and eight.
 fn idle_ok(image: &[u8; IMAGE_BYTES]) -> bool
-    ensures { result ≡ all_zero (take transfer_fields (drop kind (lifted fields image.now))) }
+    ensures { result ≡ eqb (at image.now 21) 0 && all_zero (take transfer_fields (drop kind (lifted fields image.now))) }
 {
-    let kinds = word(image, layout::TYPE);
-    let counters = u64::from_le_bytes(bytes(image, layout::TRANSFER_C64));
-    (kinds == 0) & ((counters == 0) & (image[layout::OPTIONS] == 0))
+    let front = u64::from_le_bytes(bytes(image, layout::TRANSFER));
+    let back = u64::from_le_bytes(bytes(image, layout::TRANSFER_C64 + 1));
+    (front == 0) & (back == 0)
 }
 
 // STATUS has the mark of the size.
@@ -175,13 +176,15 @@ fn running_ok(image: &[u8; IMAGE_BYTES]) -> bool
 // Whether an image is accepted: the test of its bytes for opening it, and for its registers where it stands. Without a transfer few are left to look
 // at. The two tests of a cycle look at fewer, from which this follows (`in_place::rests`, `moves`).
 #[inline(always)]
-#[tactic(auto, using(crate::proofs::Accepted::rest_ok, crate::proofs::Accepted::some_ok))]
 pub fn accepted(image: &[u8; IMAGE_BYTES]) -> bool
     ensures { result ≡ image_ok image.now }
 {
-    if image[layout::TRANSFER] == 0 {
+    if idle_ok(image) {
         let ranges = (image[layout::MORE_FLAGS] < 12) & (image[layout::DELAY] < 3);
-        return idle_ok(image) & (ranges & marked(image));
+        return ranges & marked(image);
+    }
+    if image[layout::TRANSFER] == 0 {
+        return false;
     }
     running_ok(image)
 }

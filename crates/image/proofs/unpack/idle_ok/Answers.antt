@@ -9,5 +9,5 @@ use Rattle.image.proofs.unpack.idle_ok.Goals as goal
 pub returns : goal.returns
 returns c =
     let s = c.args.image.now in
-    (λ i. eqb (c.word-kinds.ensures i) 0 && (eqb ((c.from_le_bytes-counters.ensures ∙ ap (from_le_bytes w64) c.bytes.ensures) i) 0 && eqb (at s 32) 0))
-    ∙ idle_bytes s ∙ ap (λ (l : List ℕ). all_zero (take transfer_fields (drop kind (lifted fields l)))) (listed s c.told-image)
+    (λ i. eqb ((c.from_le_bytes-front.ensures ∙ ap (from_le_bytes w64) c.bytes.ensures) i) 0 && eqb ((c.from_le_bytes-back.ensures ∙ ap (from_le_bytes w64) c.bytes-2.ensures) i) 0)
+    ∙ idle_bytes s ∙ ap (λ (l : List ℕ). eqb (at s 21) 0 && all_zero (take transfer_fields (drop kind (lifted fields l)))) (listed s c.told-image)
