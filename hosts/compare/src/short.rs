@@ -1,6 +1,6 @@
-//! The short ways, by their conditions: calls whose effect can be told from single bytes of the image and needs no controller
-//! opened. The library may take them; this says where, from the image before the call, what is lent and the call's inputs
-//! alone. Everything else goes the plain way.
+//! The short ways, by their conditions: calls whose effect can be told from single bytes of the image. The library takes them;
+//! this says where, from the image before the call, what is lent and the call's inputs alone. Everything else goes the plain
+//! way.
 //!
 //! Nothing is compared by it. `taken.rs` counts how often a run's calls take each, and `planted/ways.rs` is a stand-in's
 //! short ways, in which bugs are planted that no other call shows. Images are accepted ones, and what is lent has its length.
