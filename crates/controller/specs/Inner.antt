@@ -1,6 +1,6 @@
--- The ranges of a transfer that passes the test, as facts. No public contract cites this file.
-use Rattle.std.specs.Prelude.{◌≤◌, ◌<◌}
-use Rattle.controller.specs.Prelude.{DmaState, Option, None, Some}
+-- Facts of a controller: the ranges of a transfer that passes the test, and when a cycle has little to do. No exported contract cites this file.
+use Rattle.std.specs.Prelude.{◌≡◌, ◌≤◌, ◌<◌}
+use Rattle.controller.specs.Prelude.{false, DmaState, Option, None, Some, Reu}
 use Rattle.transfer.specs.Constants.{expansion_limit, full_length}
 
 pub record InRange (d : DmaState) : Type 0 where
@@ -11,3 +11,9 @@ pub record InRange (d : DmaState) : Type 0 where
 abbrev pub InRangeDma : Option DmaState → Type 0
 InRangeDma None = Unit {0}
 InRangeDma (Some d) = InRange d
+
+-- no transfer runs, and neither a terminal pair nor a delay is left
+pub record Rests (u : Reu) : Type 0 where
+  pub idle : u.dma ≡ None
+  pub terminal : u.terminal_swap_write ≡ false
+  pub delay : u.swap_read_delay ≡ 0

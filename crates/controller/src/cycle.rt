@@ -1,8 +1,9 @@
 // The machine's cycle over the controller: run_reu_cycle of the original's src/memory/memory.rs, and the step over a lent controller.
-ghost use Rattle.std.specs.Prelude.{◌≡◌};
+ghost use Rattle.std.specs.Prelude.{◌≡◌, true};
 ghost use Rattle.controller.specs.Answers.{step_of, stepped_of};
 ghost use Rattle.controller.specs.Calls.{step_call};
 ghost use Rattle.controller.specs.Cycle.{counted, cycle_by, run_reu_cycle};
+ghost use Rattle.controller.specs.Inner.{Rests};
 
 use crate::refusals::Refusal;
 use crate::reu::{Answered, Reu, Step};
@@ -42,6 +43,14 @@ impl Reu {
         }
     }
 
+    // Whether a cycle has nothing to do but to remember BA.
+    #[inline(always)]
+    fn rests(self) -> bool
+        ensures { result ≡ true → Rests self }
+    {
+        self.dma.is_none() & (!self.terminal_swap_write & (self.swap_read_delay == 0))
+    }
+
     // One cycle: the grant, and on Transfer a tick, which is counted. Answers false for Cpu.
     #[tactic(auto, unfolding(crate::specs::Cycle::run_reu_cycle, crate::specs::BusAction::bus_action))]
     pub(crate) fn cycle(
@@ -63,7 +72,9 @@ impl Reu {
     }
 }
 
-// Advances a controller that the caller lends by one cycle: `Reu::run_reu_cycle` on a copy, stored back whole.
+// Advances a controller that the caller lends by one cycle: `Reu::run_reu_cycle` on a copy, stored back whole. At rest no copy is made: BA is
+// remembered where the controller stands.
+#[tactic(auto, using(crate::proofs::Rest::rest_call, crate::proofs::Rest::rest_refused))]
 pub fn step(
     reu: &mut Reu,
     bus: &mut [u8],
@@ -75,6 +86,12 @@ pub fn step(
 ) -> Result<Step, Refusal>
     ensures { (stepped_of result, reu.new, bus.new, storage.new) ≡ step_call reu.old bus.old storage.old ba_high ba_high_phi1 cycle ba_low }
 {
+    if reu.rests() {
+        reu.test(bus.len(), storage.len())?;
+        reu.ba_was_high = ba_high_phi1;
+        reu.late_ba_fall = ba_high_phi1 & !ba_high;
+        return Ok(Step::quiet(false));
+    }
     let done = reu.run_reu_cycle(bus, storage, ba_high, ba_high_phi1, cycle, ba_low)?;
     *reu = done.reu;
     Ok(done.value)

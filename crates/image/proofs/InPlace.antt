@@ -23,7 +23,8 @@ use Rattle.image.specs.Inner.{gets}
 use Rattle.image.specs.Layout.{at, fields, kind, transfer_fields, image_size, size_of, reu_at}
 use Rattle.image.specs.Open.{all_zero, image_ok}
 use Rattle.image.specs.Fields.{lifted}
-use Rattle.image.specs.InPlace.{Lent, Rests, Resting, Moves, Moving, Sized, transfer_at}
+use Rattle.image.specs.InPlace.{Lent, Resting, Moves, Moving, Sized, transfer_at}
+use Rattle.controller.specs.Inner.{Rests}
 use Rattle.image.proofs.ByBytes.{ranges_are, listed, zeros, all_zeros, more_byte}
 use Rattle.transfer.proofs.Bits.{zero_bit}
 use Rattle.image.proofs.Accepted.{rest_ok, some_ok}

@@ -1,7 +1,8 @@
 -- What an image that is not opened says of its controller: the facts that the short ways of the calls ask for.
-use Rattle.std.specs.Prelude.{◌≡◌, ◌/◌, ◌<◌, None, Some}
+use Rattle.std.specs.Prelude.{◌≡◌, ◌/◌, ◌<◌, Some}
 use Rattle.controller.specs.Prelude.{ℕ, Bool, true, false, bool_eq, List}
 use Rattle.controller.specs.declared.reu.Reu.{Reu}
+use Rattle.controller.specs.Inner.{Rests}
 use Rattle.transfer.specs.Constants.{bus_size, status, version}
 use Rattle.transfer.specs.Bytes.{bit}
 use Rattle.transfer.specs.Memory.{chip_mark}
@@ -25,12 +26,6 @@ pub record Lent (i : List ℕ) (bus storage : ℕ) : Type 0 where
   pub ok : image_ok i ≡ true
   pub bus_fits : bus ≡ bus_size
   pub storage_fits : storage ≡ (reu_at i).size
-
--- no transfer runs, and neither a terminal pair nor a delay is left
-pub record Rests (u : Reu) : Type 0 where
-  pub idle : u.dma ≡ None
-  pub terminal : u.terminal_swap_write ≡ false
-  pub delay : u.swap_read_delay ≡ 0
 
 -- d runs, on attached storage, with no tail; no recall repeat, terminal pair, refresh or delay is left
 pub record Moves (u : Reu) (d : DmaState) : Type 0 where

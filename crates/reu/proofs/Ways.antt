@@ -30,6 +30,7 @@ use Rattle.regs.specs.FinishDma.{counters}
 use Rattle.image.specs.InPlace.{Resting, Moving, transfer_at}
 use Rattle.image.specs.Inner.{Room, stored}
 use Rattle.image.proofs.Unpacked.{opened_well}
+use Rattle.controller.proofs.Rest.{rest_step}
 use Rattle.controller.proofs.WellFormed.{well_range}
 use Rattle.controller.specs.Inner.{InRange, InRangeDma}
 use Rattle.controller.specs.Prelude.{bool_eq}
@@ -38,7 +39,7 @@ use Rattle.image.specs.Layout.{granted_field, image_size, reu_at}
 use Rattle.image.specs.Valid.{Bytes}
 use Rattle.reu.specs.Exports.{change_both}
 use Rattle.reu.specs.Direct.{Advances, Holds, remembered_in, transfer_in, half_in, typed_in}
-use Rattle.reu.proofs.CycleLaws.{went_on, rest_step, hold_step, store_step, recall_step, swap_read_step, swap_write_step, verify_step}
+use Rattle.reu.proofs.CycleLaws.{went_on, hold_step, store_step, recall_step, swap_read_step, swap_write_step, verify_step}
 use Rattle.reu.proofs.InPlace.{settled, history_laid, half_laid, byte_laid}
 
 -- an expansion address that moves stays below its limit
