@@ -1,5 +1,5 @@
--- What the functions inside the crate may assume of what they are handed. No exported contract cites this file.
-use Rattle.std.specs.Prelude.{ℕ, zero, suc, ◌-◌, ◌<◌, List, [], ◌∷◌, take, drop, get_or}
+-- What the functions inside the crate lay down and read. No exported contract cites this file.
+use Rattle.std.specs.Prelude.{ℕ, zero, suc, ◌-◌, ◌%◌, List, [], ◌∷◌, take, drop, get_or}
 use Rattle.transfer.specs.Constants.{expansion_limit}
 use Rattle.transfer.specs.declared.dma.DmaState.{DmaState}
 use Rattle.image.specs.Layout.{fields, kind, place_of, transfer_fields}
@@ -11,9 +11,9 @@ use Rattle.std.proofs.lemmas.List.Edits.{sets}
 abbrev pub transfer_part : List (ℕ × ℕ)
 transfer_part = take transfer_fields (drop kind fields)
 
--- a number that three bytes hold
-abbrev pub Room : DmaState → Type 0
-Room d = d.reu_addr.0 < expansion_limit
+-- a transfer as its fields hold it: of its expansion address three bytes
+abbrev pub fitted : DmaState → DmaState
+fitted d = record d { reu_addr = record { 0 = d.reu_addr.0 % expansion_limit } }
 
 -- n elements of s, from i on
 abbrev pub gets : ℕ → ℕ → List ℕ → List ℕ

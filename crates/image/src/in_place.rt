@@ -1,12 +1,12 @@
 // An image where it stands: setters, each of which lays down its fields and leaves all other bytes, and two tests, which say that an image is accepted,
 // that what is lent has its length, and that a cycle has little to do. What is not looked at is not opened.
-ghost use Rattle.std.specs.Prelude.{◌≡◌, true, ◌<◌};
+ghost use Rattle.std.specs.Prelude.{◌≡◌, true, ◌%◌};
 ghost use Rattle.std.proofs.lemmas.List.Edits.{sets};
 ghost use Rattle.transfer.specs.Constants.{bus_size, expansion_limit};
 ghost use Rattle.regs.specs.FinishDma.{counters};
 ghost use Rattle.image.specs.Fields.{laid};
 ghost use Rattle.image.specs.Layout.{flag_bits, flags, flags_of, granted_field, kind, place_of, shadow_c64, shadow_exp, shadow_length, transfer_numbers};
-ghost use Rattle.image.specs.Inner.{Room, gets, stored, transfer_part};
+ghost use Rattle.image.specs.Inner.{fitted, gets, stored, transfer_part};
 ghost use Rattle.std.specs.Int.{from_le_bytes, w64};
 ghost use Rattle.image.specs.InPlace.{Moving, Resting, Sized};
 
@@ -25,8 +25,7 @@ use transfer::DmaState;
 // With their shadows, which stand behind them.
 #[inline(always)]
 pub fn set_registers(image: &mut [u8; IMAGE_BYTES], reu: Reu)
-    requires { reu.shadow_reu_addr < expansion_limit }
-    ensures { image.new ≡ stored shadow_length (stored shadow_exp (stored shadow_c64 (sets image.old 0 reu.regs) reu.shadow_c64_addr) reu.shadow_reu_addr) reu.shadow_len }
+    ensures { image.new ≡ stored shadow_length (stored shadow_exp (stored shadow_c64 (sets image.old 0 reu.regs) reu.shadow_c64_addr) (reu.shadow_reu_addr % expansion_limit)) reu.shadow_len }
 {
     pack::put(image, REGISTERS, reu.regs);
     pack::put(image, SHADOW_C64, reu.shadow_c64_addr.to_le_bytes());
@@ -51,7 +50,6 @@ pub fn set_granted(image: &mut [u8; IMAGE_BYTES], granted: u32)
 // The seven address and length registers: the image begins with the registers, so its bytes have their numbers.
 #[inline(always)]
 pub fn set_counters(image: &mut [u8; IMAGE_BYTES], d: DmaState)
-    requires { Room d }
     ensures { image.new ≡ counters image.old d.c64_addr.0 d.reu_addr.0 d.remaining }
 {
     pack::put(image, C64_ADDRESS_LOW, d.c64_addr.0.to_le_bytes());
@@ -61,8 +59,7 @@ pub fn set_counters(image: &mut [u8; IMAGE_BYTES], d: DmaState)
 
 #[inline(always)]
 pub fn set_transfer(image: &mut [u8; IMAGE_BYTES], d: DmaState)
-    requires { Room d }
-    ensures { image.new ≡ sets image.old (place_of kind) (laid transfer_part (transfer_numbers (Some d))) }
+    ensures { image.new ≡ sets image.old (place_of kind) (laid transfer_part (transfer_numbers (Some (fitted d)))) }
 {
     pack::put_transfer(image, d);
 }

@@ -1,5 +1,5 @@
 // A controller laid down in an image, field by field.
-ghost use Rattle.std.specs.Prelude.{true, ◌≡◌, ◌+◌, ◌<◌, ◌≤◌};
+ghost use Rattle.std.specs.Prelude.{true, ◌≡◌, ◌+◌, ◌%◌, ◌≤◌};
 ghost use Rattle.std.proofs.lemmas.List.Edits.{sets};
 ghost use Rattle.controller.specs.Refusals.{well_formed};
 ghost use Rattle.transfer.specs.Constants.{expansion_limit};
@@ -7,7 +7,7 @@ ghost use Rattle.image.specs.Radix.{parted};
 ghost use Rattle.controller.specs.Inner.{InRangeDma};
 ghost use Rattle.image.specs.Fields.{laid, radices};
 ghost use Rattle.image.specs.Layout.{flag_bits, flags_of, image_size, kind, more_number, option_bits, pack_image, place_of, remaining_number, size_code, transfer_numbers};
-ghost use Rattle.image.specs.Inner.{Room, transfer_part};
+ghost use Rattle.image.specs.Inner.{fitted, transfer_part};
 
 use crate::layout::{
     DELAY, FLAGS, GRANTED_CYCLES, IMAGE_BYTES, LATCH, MORE_FLAGS, OPTIONS, PHASE, REGISTERS,
@@ -29,10 +29,9 @@ pub(crate) fn put<const N: usize>(out: &mut [u8; IMAGE_BYTES], place: usize, byt
     out[place..place + N].copy_from_slice(&bytes);
 }
 
-// An address in the expansion has three bytes.
+// An address in the expansion has three bytes, and of a number that is larger these are the low ones.
 pub(crate) fn three(address: u32) -> [u8; 3]
-    requires { address < expansion_limit }
-    ensures { result ≡ parted (radices 3) address }
+    ensures { result ≡ parted (radices 3) (address % expansion_limit) }
 {
     let [low, middle, high, _] = address.to_le_bytes();
     [low, middle, high]
@@ -113,8 +112,7 @@ const ZEROS: DmaState = DmaState {
 
 fn transfer_of(m: Option<DmaState>) -> DmaState
     requires { InRangeDma m }
-    ensures result_value { transfer_numbers (Some result) ≡ transfer_numbers m }
-    ensures room { Room result }
+    ensures { transfer_numbers (Some (fitted result)) ≡ transfer_numbers m }
 {
     m.unwrap_or(ZEROS)
 }
@@ -122,8 +120,7 @@ fn transfer_of(m: Option<DmaState>) -> DmaState
 // ---- the fields at their places
 #[inline(always)]
 pub(crate) fn put_transfer(out: &mut [u8; IMAGE_BYTES], d: DmaState)
-    requires { Room d }
-    ensures { out.new ≡ sets out.old (place_of kind) (laid transfer_part (transfer_numbers (Some d))) }
+    ensures { out.new ≡ sets out.old (place_of kind) (laid transfer_part (transfer_numbers (Some (fitted d)))) }
 {
     put(out, TYPE, [u8::from(d.transfer_type)]);
     put(out, PHASE, [u8::from(d.swap_phase == SwapPhase::WriteC64)]);

@@ -16,7 +16,7 @@ use Rattle.controller.specs.Cycle.{run_reu_cycle}
 use Rattle.controller.specs.Calls.{cycle_call, step_number}
 use Rattle.controller.proofs.Checked.{passed}
 use Rattle.image.specs.Layout.{image_size, shadow_c64, shadow_exp, shadow_length, granted_field, pack_image, reu_at}
-use Rattle.image.specs.Inner.{gets, stored}
+use Rattle.image.specs.Inner.{fitted, gets, stored}
 use Rattle.image.specs.InPlace.{Lent}
 use Rattle.image.specs.Open.{image_ok}
 use Rattle.image.specs.Valid.{Bytes}
@@ -80,21 +80,23 @@ module _ (i : List ℕ) (whole : Bytes i) (long : length i ≡ image_size) where
     history_laid was late = with_either (λ l r. flagged l (with_history r was late)) (λ r. with_history r was late) refl (λ d. refl)
 
     -- half a byte of a swap leaves the history, the count g and the transfer e
-    pub half_laid : (was late : Bool) (g : ℕ) (d e : DmaState) → u.dma ≡ Some d
+    pub half_laid : (was late : Bool) (g : ℕ) (d e : DmaState) → u.dma ≡ Some d → fitted e ≡ e
         → transfer_in (stored granted_field (flagged i (with_history u was late)) g) e ≡ pack_image (with_granted (with_dma (with_history u was late) (Some e)) g)
     unfolding pack_image
-    half_laid was late g d e h =
+    half_laid was late g d e h k =
         with_transfer (λ l r. transfer_in (stored granted_field (flagged l (with_history r was late)) g) e)
-        (λ r. with_granted (with_dma (with_history r was late) (Some e)) g) (Some d) h refl
+        (λ r. with_granted (with_dma (with_history r was late) (Some (fitted e))) g) (Some d) h refl
+        ∙ ap (λ (x : DmaState). pack_image (with_granted (with_dma (with_history u was late) (Some x)) g)) k
 
     -- a byte leaves the counters too, which are bytes 2 to 8
-    pub byte_laid : (was late : Bool) (g c x n : ℕ) (d e : DmaState) → u.dma ≡ Some d
+    pub byte_laid : (was late : Bool) (g c x n : ℕ) (d e : DmaState) → u.dma ≡ Some d → fitted e ≡ e
         → transfer_in (counters (stored granted_field (flagged i (with_history u was late)) g) c x n) e
         ≡ pack_image (with_granted (with_dma (with_regs (with_history u was late) (counters u.regs c x n)) (Some e)) g)
     unfolding pack_image
-    byte_laid was late g c x n d e h =
+    byte_laid was late g c x n d e h k =
         with_transfer (λ l r. transfer_in (counters (stored granted_field (flagged l (with_history r was late)) g) c x n) e)
-        (λ r. with_granted (with_dma (with_regs (with_history r was late) (counters r.regs c x n)) (Some e)) g) (Some d) h refl
+        (λ r. with_granted (with_dma (with_regs (with_history r was late) (counters r.regs c x n)) (Some (fitted e))) g) (Some d) h refl
+        ∙ ap (λ (y : DmaState). pack_image (with_granted (with_dma (with_regs (with_history u was late) (counters u.regs c x n)) (Some y)) g)) k
 
     -- a register that is written leaves the registers, the shadows, the interrupt and whether a command is armed
     pub registers_laid : (regs : List ℕ) (c x n : ℕ) (irq armed : Bool) → length regs ≡ register_count

@@ -28,7 +28,7 @@ use Rattle.transfer.specs.declared.memory.ExpansionAddress.{ExpansionAddress}
 use Rattle.transfer.specs.declared.dma.Passed.{Passed}
 use Rattle.regs.specs.FinishDma.{counters}
 use Rattle.image.specs.InPlace.{Resting, Moving, transfer_at}
-use Rattle.image.specs.Inner.{Room, stored}
+use Rattle.image.specs.Inner.{fitted, stored}
 use Rattle.image.proofs.Unpacked.{opened_well}
 use Rattle.controller.proofs.Rest.{rest_step}
 use Rattle.controller.proofs.WellFormed.{well_range}
@@ -42,8 +42,14 @@ use Rattle.reu.specs.Direct.{Advances, Holds, remembered_in, transfer_in, half_i
 use Rattle.reu.proofs.CycleLaws.{went_on, hold_step, store_step, recall_step, swap_read_step, swap_write_step, verify_step}
 use Rattle.reu.proofs.InPlace.{settled, history_laid, half_laid, byte_laid}
 
--- an expansion address that moves stays below its limit
-pub moved_room : (d : DmaState) → d.reu_addr.0 < expansion_limit → (moved d).reu_addr.0 < expansion_limit
+-- an expansion address that three bytes hold, and one that moves stays so
+abbrev Room : DmaState → Type 0
+Room d = d.reu_addr.0 < expansion_limit
+
+fits : (d : DmaState) → Room d → fitted d ≡ d
+fits d h = ap (λ (n : ℕ). record d { reu_addr = record { 0 = n } }) (omega (arith, h))
+
+moved_room : (d : DmaState) → Room d → Room (moved d)
 moved_room d h =
     by_test (λ (a : ExpansionAddress). a.0 < expansion_limit) d.fix_reu d.reu_addr (next_exp d.reu_addr) (λ _. h) (λ _. omega arith)
 
@@ -83,8 +89,7 @@ module _ (i : List ℕ) (whole : Bytes i) (long : length i ≡ image_size) (m s 
     abbrev d : DmaState
     d = transfer_at i
 
-    -- its expansion address fits three bytes
-    pub room : Room d
+    room : Room d
     room = in_range (subst InRangeDma r.moves.runs (well_range u (opened_well i whole long r.lent.ok)))
       where
         in_range : InRange d → Room d
@@ -106,30 +111,31 @@ module _ (i : List ℕ) (whole : Bytes i) (long : length i ≡ image_size) (m s 
       read_way k p =
           let e : DmaState = latched d (seen_at u.size d.c64_addr d.reu_addr m s) n in
           let t : List ℕ = set_storage u.size s d.reu_addr (bus_byte m d.c64_addr) in
-          ap (λ (l : List ℕ). (1, l, m, t)) (half_laid i whole long r.lent.ok true (not high) (capped (u.granted_cycles + 1)) d e r.moves.runs)
+          ap (λ (l : List ℕ). (1, l, m, t)) (half_laid i whole long r.lent.ok true (not high) (capped (u.granted_cycles + 1)) d e r.moves.runs (fits e room))
           ∙ settled i whole long m s r.lent high true n low true neither None _ m t (swap_read_step u m s high n low d r.moves q k p)
 
       -- a byte is completed, and the command goes on as e
-      onward : (e : DmaState) (p : Passed) (b t : List ℕ) → run_reu_cycle u m s high true n low ≡ (ticked true p None (went_on u e high), b, t)
+      onward : (e : DmaState) → Room e → (p : Passed) (b t : List ℕ) → run_reu_cycle u m s high true n low ≡ (ticked true p None (went_on u e high), b, t)
           → (step_number true p, transfer_in (counters granted_in e.c64_addr.0 e.reu_addr.0 e.remaining) e, b, t) ≡ called true
       unfolding counted publish_live_counters
-      onward e p b t h =
+      onward e k p b t h =
           ap (λ (l : List ℕ). (step_number true p, l, b, t))
-          (byte_laid i whole long r.lent.ok true (not high) (capped (u.granted_cycles + 1)) e.c64_addr.0 e.reu_addr.0 e.remaining d e r.moves.runs)
+          (byte_laid i whole long r.lent.ok true (not high) (capped (u.granted_cycles + 1)) e.c64_addr.0 e.reu_addr.0 e.remaining d e r.moves.runs (fits e k))
           ∙ settled i whole long m s r.lent high true n low true p None _ b t h
 
       module _ (more : eqb d.remaining 1 ≡ false) where
         swap_way : (p : SwapPhase) → d.transfer_type ≡ Swap → d.swap_phase ≡ p → half_in p u.size d granted_in m s n ≡ called true
         swap_way ReadC64 k p = read_way k p
-        swap_way WriteC64 k p = onward (moved d) (passed d) _ _ (swap_write_step u m s high n low d r.moves q more k p)
+        swap_way WriteC64 k p = onward (moved d) (moved_room d room) (passed d) _ _ (swap_write_step u m s high n low d r.moves q more k p)
 
         typed_way : (k : TransferType) → d.transfer_type ≡ k → (k ≡ Verify → eqb (bus_byte m d.c64_addr) (storage_byte u.size s d.reu_addr) ≡ true)
             → typed_in k u.size d granted_in m s n ≡ called true
-        typed_way Store k v = onward (moved d) (passed d) _ _ (store_step u m s high n low d r.moves q more k)
+        typed_way Store k v = onward (moved d) (moved_room d room) (passed d) _ _ (store_step u m s high n low d r.moves q more k)
         typed_way Recall k v =
-            onward (moved (with_latch d (storage_byte u.size s d.reu_addr))) (passed d) _ _ (recall_step u m s high n low d r.moves q more k)
+            let e : DmaState = with_latch d (storage_byte u.size s d.reu_addr) in
+            onward (moved e) (moved_room e room) (passed d) _ _ (recall_step u m s high n low d r.moves q more k)
         typed_way Swap k v = swap_way d.swap_phase k refl
-        typed_way Verify k v = onward (moved d) (passed d) _ _ (verify_step u m s high n low d r.moves q more k (v refl))
+        typed_way Verify k v = onward (moved d) (moved_room d room) (passed d) _ _ (verify_step u m s high n low d r.moves q more k (v refl))
 
   -- the processor is held
   pub hold_way : (phi1 : Bool) → Holds i m s phi1 → (1, remembered_in i high false, m, s) ≡ called phi1

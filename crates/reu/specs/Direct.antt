@@ -1,11 +1,11 @@
 -- What the short ways of the calls leave of an image where it stands. No exported contract cites this file.
-use Rattle.std.specs.Prelude.{◌≡◌, ◌&&◌, Option, None, Some}
+use Rattle.std.specs.Prelude.{◌≡◌, ◌&&◌, ◌%◌, Option, None, Some}
 use Rattle.std.proofs.lemmas.List.Edits.{sets}
 use Rattle.controller.specs.Prelude.{ℕ, Bool, true, false, not, List, length, cond, eqb, ltb, set, Store, Recall, Swap, Verify, SwapPhase, ReadC64, WriteC64, TransferType, DmaState}
 use Rattle.controller.specs.declared.reu.Reu.{Reu}
 use Rattle.controller.specs.Reu.{with_history, with_irq}
 use Rattle.transfer.specs.Bytes.{bit}
-use Rattle.transfer.specs.Constants.{status, command, execute, without_ff00, register_count, unused_register}
+use Rattle.transfer.specs.Constants.{status, command, execute, without_ff00, expansion_limit, register_count, unused_register}
 use Rattle.regs.specs.Registers.{acknowledged, register_index, shown}
 use Rattle.controller.specs.Calls.{step_number}
 use Rattle.transfer.specs.Dma.{moved, passed, latched, with_latch}
@@ -13,7 +13,7 @@ use Rattle.transfer.specs.Memory.{seen_at, bus_byte, set_bus, storage_byte, set_
 use Rattle.regs.specs.FinishDma.{counters}
 use Rattle.image.specs.Fields.{laid}
 use Rattle.image.specs.Layout.{at, flag_bits, flags, flags_of, kind, place_of, reu_at, shadow_c64, shadow_exp, shadow_length, transfer_numbers}
-use Rattle.image.specs.Inner.{stored, transfer_part}
+use Rattle.image.specs.Inner.{fitted, stored, transfer_part}
 use Rattle.image.specs.InPlace.{Moving, transfer_at}
 
 -- what a short way answers: none is taken and nothing has changed, or what is answered and left is what the call says
@@ -51,7 +51,7 @@ remembered_in i high phi1 = flagged i (with_history (reu_at i) phi1 (phi1 && not
 
 -- a transfer in its fields
 abbrev pub transfer_in : List ℕ → DmaState → List ℕ
-transfer_in i d = sets i (place_of kind) (laid transfer_part (transfer_numbers (Some d)))
+transfer_in i d = sets i (place_of kind) (laid transfer_part (transfer_numbers (Some (fitted d))))
 
 -- a byte of d is completed: the answer, and the image with the counters shown
 abbrev pub completed_in : List ℕ → DmaState → (ℕ × List ℕ)
@@ -90,4 +90,4 @@ starts addr v = eqb (register_index addr) command && (bit v execute && bit v wit
 -- the registers and the shadows of a controller
 abbrev pub registered : List ℕ → Reu → List ℕ
 registered i u =
-    stored shadow_length (stored shadow_exp (stored shadow_c64 (sets i 0 u.regs) u.shadow_c64_addr) u.shadow_reu_addr) u.shadow_len
+    stored shadow_length (stored shadow_exp (stored shadow_c64 (sets i 0 u.regs) u.shadow_c64_addr) (u.shadow_reu_addr % expansion_limit)) u.shadow_len

@@ -6,7 +6,6 @@ ghost use Rattle.controller.specs.Registers.{write_register};
 ghost use Rattle.transfer.specs.Dma.{is_type};
 ghost use Rattle.transfer.specs.Memory.{bus_byte, storage_byte};
 ghost use Rattle.controller.specs.Prelude.{Verify, eqb, not};
-ghost use Rattle.image.specs.Inner.{Room};
 ghost use Rattle.reu.specs.Exports.{change_both, reu_debug_register, reu_read, reu_write};
 ghost use Rattle.reu.specs.Direct.{Short, completed_in, read_in, remembered_in, starts, typed_in};
 
@@ -126,9 +125,8 @@ pub(crate) fn write(image: &mut [u8], addr: u16, value: u8) -> u32
 
 // The counters move, and are shown.
 #[inline(always)]
-#[tactic(auto, unfolding(transfer::specs::Dma::complete_byte), using(crate::proofs::Ways::moved_room))]
+#[tactic(auto, unfolding(transfer::specs::Dma::complete_byte))]
 fn complete(image: &mut [u8; IMAGE_BYTES], d: DmaState) -> u32
-    requires { Room d }
     ensures { (result, image.new) ≡ completed_in image.old d }
 {
     let done = d.complete_byte();
@@ -147,7 +145,6 @@ fn byte(
     d: DmaState,
     cycle: u64,
 ) -> u32
-    requires { Room d }
     ensures { (result, image.new, bus.new, storage.new) ≡ typed_in d.transfer_type size d image.old bus.old storage.old cycle }
 {
     match d.transfer_type {

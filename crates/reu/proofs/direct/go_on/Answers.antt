@@ -1,4 +1,4 @@
-use Rattle.std.proofs.Common.{◌≡◌, ℕ, ◌+◌, ◌<◌, List, true, false, rules, ap, ap₂, sym, subst, ◌∙◌, eqb, ne_eqb, not, ◌&&◌}
+use Rattle.std.proofs.Common.{◌≡◌, ℕ, ◌+◌, List, true, false, rules, ap, ap₂, sym, ◌∙◌, eqb, ne_eqb, not, ◌&&◌}
 use Rattle.controller.specs.declared.reu.Reu.{Reu}
 use Rattle.transfer.specs.Dma.{is_type}
 use Rattle.transfer.specs.Memory.{bus_byte, storage_byte}
@@ -10,7 +10,7 @@ use Rattle.reu.specs.Direct.{remembered_in, typed_in}
 use Rattle.controller.specs.Cycle.{capped}
 use Rattle.image.specs.InPlace.{transfer_at}
 use Rattle.reu.proofs.Families.{bytes_of}
-use Rattle.reu.proofs.Ways.{same_level, agrees, held_count, room, hold_way, byte_way}
+use Rattle.reu.proofs.Ways.{same_level, agrees, held_count, hold_way, byte_way}
 use Rattle.reu.proofs.direct.go_on.Goals as goal
 
 pub returns-then-not-ba_high_phi1 : goal.returns-then-not-ba_high_phi1
@@ -24,12 +24,6 @@ returns-then-not-ba_high_phi1 c =
     λ low. ap (λ (l : List ℕ). (1, l, m, s)) c.remember.ensures
     ∙ hold_way i (bytes_of i (λ j. search rules)) c.told-image m s c.args.ba_high c.args.cycle low c.args.ba_high_phi1
     (record { moving = c.moves.ensures c.if-not-moves.false; was = was; low = low_now })
-
-pub byte-requires : goal.byte-requires
-byte-requires c =
-    let i = c.args.image.now in
-    subst (λ (d : _). d.reu_addr.0 < 16777216) (sym c.transfer_at-d.ensures)
-    (room i (bytes_of i (λ j. search rules)) c.told-image c.args.bus.now c.args.storage.now c.args.ba_high c.args.cycle true (c.moves.ensures c.if-not-moves.false))
 
 pub returns : goal.returns
 returns c =

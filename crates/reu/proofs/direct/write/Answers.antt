@@ -1,12 +1,7 @@
 use Rattle.std.proofs.Common.{rules}
 use Rattle.reu.proofs.Families.{bytes_of}
-use Rattle.reu.proofs.RegisterLaws.{write_done, write_room}
+use Rattle.reu.proofs.RegisterLaws.{write_done}
 use Rattle.reu.proofs.direct.write.Goals as goal
-
-pub set_registers-requires : goal.set_registers-requires
-set_registers-requires c =
-    let i = c.args.image.now in
-    write_room i (search rules) (search rules) (bytes_of i (λ j. search rules)) c.args.addr c.args.value (search rules) c.written-reu.result (search rules)
 
 pub returns : goal.returns
 returns c =
