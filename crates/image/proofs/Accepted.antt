@@ -1,13 +1,16 @@
 -- An image is accepted by the bytes that are looked at: without a transfer, and with one.
 use mathlib.Core.Path.{◌≡◌, refl, sym, ap, ◌∙◌}
-use mathlib.Core.Bool.{Bool, true, false, cond, ◌&&◌}
+use mathlib.Core.Bool.{Bool, true, false, cond, not, ◌&&◌}
 use mathlib.Core.List.{List}
-use Prim.Native.Nat.{ℕ, ◌+◌, ◌*◌, ◌<◌, ◌/◌}
+use Prim.Native.Nat.{ℕ, zero, suc, ◌+◌, ◌*◌, ◌<◌, ◌/◌, ◌%◌}
 use native.Mathlib.Omega.{arith}
 use lib.ListN.{length, get_or, take, drop}
 use lib.Dec.{eqb, ltb, leb}
 use Rattle.std.specs.Cmp.{both_ways}
 use borrow.Author.Tests.{eqb-false, le-ltb, eq-eqb, eqb-true, lt-ltb, le-leb, leb-true, ltb-true}
+use Rattle.transfer.proofs.Bits.{bit_div, kept}
+use lib.Bits.{bit_and}
+use Rattle.std.proofs.Common.{mod-lt}
 use Rattle.transfer.proofs.Pick.{by_test}
 use Rattle.std.specs.Prelude.{None, Some}
 use Rattle.controller.specs.Refusals.{well_formed}
@@ -34,11 +37,46 @@ below_three : (n : ℕ) → leb n 2 ≡ ltb n 3
 below_three n = both_ways (leb n 2) (ltb n 3) (λ e. lt-ltb n 3 (omega (arith, leb-true n 2 e))) (λ e. le-leb n 2 (omega (arith, ltb-true n 3 e)))
 
 -- the sizes of codes 0 and 1 have the mark
-pub mark_of_code : (m : ℕ) → ltb m 8 ≡ chip_mark (size_of (m / 4))
+mark_of_code : (m : ℕ) → ltb m 8 ≡ chip_mark (size_of (m / 4))
 mark_of_code m =
     by_test (λ x. ltb m 8 ≡ chip_mark x) (eqb (m / 4) 0) 524288 _ (λ e. lt-ltb m 8 (omega (arith, eqb-true (m / 4) 0 e)))
     (λ e. by_test (λ x. ltb m 8 ≡ chip_mark x) (eqb (m / 4) 1) 262144 131072 (λ k. lt-ltb m 8 (omega (arith, eqb-true (m / 4) 1 k)))
     (λ k. le-ltb m 8 (omega (arith, eqb-false (m / 4) 0 e, eqb-false (m / 4) 1 k))))
+
+-- below 12 bit 3 is 0 below 8
+not_smallest : (m : ℕ) → m < 12 → not (bit m 3) ≡ ltb m 8
+not_smallest m h = ap not (bit_div m 3) ∙ go (m / 8 % 2) refl
+  where
+    go : (q : ℕ) → m / 8 % 2 ≡ q → not (eqb q 1) ≡ ltb m 8
+    go zero e = sym (lt-ltb m 8 (omega (arith, e, h)))
+    go (suc zero) e = sym (le-ltb m 8 (omega (arith, e)))
+    go (suc (suc q)) e = absurd (omega arith)
+
+-- STATUS v and more flags m: bit 4 of the one is not bit 3 of the other
+abbrev pub mark_in : ℕ → ℕ → Bool
+mark_in v m = bool_eq (bit v 4) (not (bit m 3))
+
+pub one_of_two : (v m : ℕ) → not (eqb (bit_and v 16) (2 * bit_and m 8)) ≡ mark_in v m
+one_of_two v m =
+    (λ i. not (eqb (kept v 4 i) (2 * kept m 3 i))) ∙ go (v / 16 % 2) (m / 8 % 2) (mod-lt (v / 16) (omega arith)) (mod-lt (m / 8) (omega arith))
+    ∙ (λ i. bool_eq (sym (bit_div v 4) i) (not (sym (bit_div m 3) i)))
+  where
+    go : (p q : ℕ) → p < 2 → q < 2 → not (eqb (p * 16) (2 * (q * 8))) ≡ bool_eq (eqb p 1) (not (eqb q 1))
+    go zero zero h k = refl
+    go zero (suc zero) h k = refl
+    go (suc zero) zero h k = refl
+    go (suc zero) (suc zero) h k = refl
+    go (suc (suc p)) q h k = absurd (omega arith)
+    go p (suc (suc q)) h k = absurd (omega arith)
+
+-- of a size that is coded this is its mark
+pub marked_same : (v m : ℕ) (c : Bool)
+    → (ltb m 12 && c) && mark_in v m ≡ (ltb m 12 && c) && bool_eq (bit v 4) (chip_mark (size_of (m / 4)))
+marked_same v m c = go (ltb m 12) refl
+  where
+    go : (t : Bool) → ltb m 12 ≡ t → (t && c) && mark_in v m ≡ (t && c) && bool_eq (bit v 4) (chip_mark (size_of (m / 4)))
+    go true e = ap (λ (x : Bool). c && bool_eq (bit v 4) x) (not_smallest m (ltb-true m 12 e) ∙ mark_of_code m)
+    go false e = refl
 
 -- with zeros behind it, few of the ranges are left
 less : (a c d e f g h m z : Bool) → (z ≡ true → (d ≡ true) × (e ≡ true) × (f ≡ true) × (g ≡ true))

@@ -1,13 +1,14 @@
 // The controller that an image holds, field by field, and whether each field is in its range.
 ghost use Rattle.std.specs.Prelude.{◌≡◌, ◌+◌, ◌≤◌, ◌&&◌, drop, take};
-ghost use Rattle.controller.specs.Prelude.{eqb};
+ghost use Rattle.controller.specs.Prelude.{bool_eq, eqb, not};
 ghost use Rattle.controller.specs.Refusals.{well_formed};
 ghost use Rattle.image.specs.Radix.{below, joined};
 ghost use Rattle.image.specs.Fields.{lifted, radices, values};
 ghost use Rattle.image.specs.Layout.{at, dma_in, fields, image_size, kind, phase_of, reu_at, size_of, transfer_fields, transfer_of};
 ghost use Rattle.image.specs.Inner.{gets};
 ghost use Rattle.image.specs.Open.{all_zero, image_ok};
-ghost use Rattle.image.specs.InPlace.{marked_at};
+ghost use Rattle.transfer.specs.Bytes.{bit};
+ghost use Rattle.transfer.specs.Constants.{status, version};
 
 use crate::layout;
 use crate::layout::IMAGE_BYTES;
@@ -156,12 +157,16 @@ fn idle_ok(image: &[u8; IMAGE_BYTES]) -> bool
     (front == 0) & (back == 0)
 }
 
-// STATUS has the mark of the size.
-#[tactic(auto, using(crate::proofs::Accepted::mark_of_code))]
+// Of more flags bit 3: the smallest size is coded by 8 to 11 there, and the others by less.
+const SMALLEST: u8 = 0x08;
+
+// STATUS has the mark of a size that is coded: its bit 4 is 1 where bit 3 of more flags is 0. One bit is compared with twice the other: by two truth
+// values it takes three instructions more.
+#[tactic(auto, using(crate::proofs::Accepted::one_of_two))]
 fn marked(image: &[u8; IMAGE_BYTES]) -> bool
-    ensures { result ≡ marked_at image.now }
+    ensures { result ≡ bool_eq (bit (at image.now status) version) (not (bit (at image.now 19) 3)) }
 {
-    (image[layout::REGISTERS + STATUS] & STATUS_VERSION != 0) == (image[layout::MORE_FLAGS] < 8)
+    image[layout::REGISTERS + STATUS] & STATUS_VERSION != 2 * (image[layout::MORE_FLAGS] & SMALLEST)
 }
 
 // The ranges and the controller's own tests, of an image with a transfer. It stays a function of its own: within the test of an image it would take

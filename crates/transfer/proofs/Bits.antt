@@ -7,7 +7,7 @@ use borrow.Author.Tests.{eqb-false}
 use Rattle.transfer.specs.Bytes.{bit, bit_of}
 
 -- what a mask of one bit keeps
-kept : (v n : ℕ) → bit_and v (2 ^ n) ≡ (v / 2 ^ n % 2) * 2 ^ n
+pub kept : (v n : ℕ) → bit_and v (2 ^ n) ≡ (v / 2 ^ n % 2) * 2 ^ n
 kept v n = ap (bit_and v) (sym (high_ones 1 n ∙ one-mul (2 ^ n))) ∙ and_high v 1 n
 
 digit : (q p : ℕ) → q < 2 → 0 < p → not (eqb (q * p) 0) ≡ eqb q 1
