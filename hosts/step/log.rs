@@ -1,7 +1,8 @@
 //! Runs commands to their ends through the step over a lent controller and through the tick, and holds the log of each run
 //! to request L5: which register stores a step hands out. Then it makes wrong logs of right ones, each of which must be
-//! noticed. tools/count-step --check compiles and runs this.
+//! noticed. At last it does random operations on the original too. tools/count-step --check compiles and runs this.
 
+mod beside;
 mod common;
 mod counts;
 mod planted;
@@ -9,7 +10,7 @@ mod rule;
 mod runs;
 
 use common::bits;
-use common::constants::{REGISTER_COUNT, STORAGE_SIZE};
+use common::constants::{IMAGE_SIZE, REGISTER_COUNT, STORAGE_SIZE};
 use counts::Judged;
 use rule::{Known, Line, Operation, Sort, State};
 use runs::Run;
@@ -54,27 +55,34 @@ fn state(log: &mut &[u8]) -> State {
 fn line(log: &mut &[u8]) -> Line {
     let (before, count) = (state(log), usize::from(taken(log, 1)[0]));
     let stores = taken(log, 2 * count).chunks_exact(2).map(|pair| (pair[0], pair[1])).collect();
-    Line { before, stores, after: state(log) }
+    let (after, flag) = (state(log), taken(log, 1)[0] != 0);
+    Line { before, stores, after, flag, image: taken(log, IMAGE_SIZE).try_into().unwrap() }
 }
 
-/// The longest line: a controller before and after, a count and seven pairs.
-const LINE: usize = 2 * (REGISTER_COUNT + 2) + 1 + 14;
+/// The longest line: a controller before and after, a count and seven pairs, a flag and an image.
+const LINE: usize = 2 * (REGISTER_COUNT + 2) + 1 + 14 + 1 + IMAGE_SIZE;
 
-/// The steps' lines in the log of a run. The storage is lent, for its size: enabling clears it.
-fn logged(run: &Run, storage: &mut [u8]) -> Vec<Line> {
-    let operations: Vec<u32> = run.operations.iter().map(packed).collect();
-    let (mut bus, mut log) = (run.bus(), vec![0xEE; operations.len() * LINE]);
+/// The log of operations on a new controller, a line for each. The storage is lent, for its size, if enabling comes first: it clears it.
+fn lines(operations: &[Operation], bus: &mut [u8], storage: &mut [u8]) -> Vec<Line> {
+    let packed: Vec<u32> = operations.iter().map(packed).collect();
+    let mut log = vec![0xEE; packed.len() * LINE];
     // SAFETY: each pointer is valid for the length beside it, and no two buffers overlap.
     let length = unsafe {
         let (bus, storage) = ((bus.as_mut_ptr(), bus.len()), (storage.as_mut_ptr(), storage.len()));
-        let (calls, log) = ((operations.as_ptr(), operations.len()), (log.as_mut_ptr(), log.len()));
+        let (calls, log) = ((packed.as_ptr(), packed.len()), (log.as_mut_ptr(), log.len()));
         run_log(bus.0, bus.1, storage.0, storage.1, calls.0, calls.1, log.0, log.1)
     };
     let mut rest = &log[..length as usize];
-    let lines = run.operations.iter().map(|operation| (operation, line(&mut rest)));
-    let steps = lines.filter(|(operation, _)| operation.is_step()).map(|(_, line)| line).collect();
+    let lines = operations.iter().map(|_| line(&mut rest)).collect();
     assert!(rest.is_empty(), "more lines than operations");
-    steps
+    lines
+}
+
+/// The steps' lines in the log of a run.
+fn logged(run: &Run, storage: &mut [u8]) -> Vec<Line> {
+    let lines = lines(&run.operations, &mut run.bus(), storage);
+    let with = run.operations.iter().zip(lines);
+    with.filter(|(operation, _)| operation.is_step()).map(|(_, line)| line).collect()
 }
 
 /// Holds a log to the rule, step by step, with what the host knows by its calls up to there. Answers what each step does.
@@ -108,4 +116,5 @@ fn main() {
     let planted = planted::all(&mut storage);
     println!("{} planted, {} noticed", planted.made, planted.noticed);
     assert!(planted.made == planted.noticed, "a wrong log was not noticed");
+    beside::compared(&mut storage);
 }

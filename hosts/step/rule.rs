@@ -31,13 +31,17 @@ pub struct State {
     pub granted: u8,
 }
 
-/// What it says of a step.
+/// What it says of an operation.
 #[derive(Clone)]
 pub struct Line {
     pub before: State,
     /// Indexes and values.
     pub stores: Vec<(u8, u8)>,
     pub after: State,
+    /// Of a step.
+    pub flag: bool,
+    /// After it.
+    pub image: [u8; IMAGE_SIZE],
 }
 
 impl Line {
