@@ -25,22 +25,22 @@ use Rattle.controller.specs.Inner.{Rests}
 use Rattle.controller.specs.Refusals.{refusal_of}
 use Rattle.controller.proofs.Checked.{passed, not_passed}
 
--- whoever unfolds this unfolds all that such a grant computes
+-- whoever unfolds this unfolds all that a grant computes
 unfoldable pub grant_computed : Unit {0}
 unfolding next_action decide fall plain action_for_cycle c64_access repeated
 grant_computed = tt
 
 module _ (u : Reu) (m s : List ℕ) (high : Bool) (n : ℕ) (low : Bool) where
-  abbrev pub cycled : Bool → Ticked
+  abbrev cycled : Bool → Ticked
   cycled phi1 = run_reu_cycle u m s high phi1 n low
 
-  abbrev pub now : Bool → Reu
+  abbrev now : Bool → Reu
   now phi1 = with_history u phi1 (phi1 && not high)
 
   -- the cycle by its grant, where the grant writes nothing and changes BA's history alone
-  pub by_grant : (phi1 : Bool) (a : ReuBusAction) → next_action u high phi1 n ≡ granted a (now phi1) → cycled phi1 ≡ cycle_by a (now phi1) m s n low
+  pub cycle_granted : (phi1 : Bool) (a : ReuBusAction) → next_action u high phi1 n ≡ granted a (now phi1) → cycled phi1 ≡ cycle_by a (now phi1) m s n low
   unfolding run_reu_cycle bus_action
-  by_grant phi1 a h = ap (λ (g : BusAnswer). cycle_by g.action g.reu m (put_storage u.size g.put s) n low) h
+  cycle_granted phi1 a h = ap (λ (g : BusAnswer). cycle_by g.action g.reu m (put_storage u.size g.put s) n low) h
 
   rest_grant : (was phi1 : Bool) → u.ba_was_high ≡ was → Rests u → next_action u high phi1 n ≡ granted Cpu (now phi1)
   unfolding grant_computed
@@ -50,7 +50,7 @@ module _ (u : Reu) (m s : List ℕ) (high : Bool) (n : ℕ) (low : Bool) where
 
   pub rest_step : (phi1 : Bool) → Rests u → cycled phi1 ≡ (quiet_step 0 false (now phi1), m, s)
   unfolding cycle_by
-  rest_step phi1 h = by_grant phi1 Cpu (rest_grant u.ba_was_high phi1 refl h)
+  rest_step phi1 h = cycle_granted phi1 Cpu (rest_grant u.ba_was_high phi1 refl h)
 
   -- ---- the step over a controller that is lent: done, and refused
 
@@ -59,7 +59,7 @@ module _ (u : Reu) (m s : List ℕ) (high : Bool) (n : ℕ) (low : Bool) where
     unfolding cycle_call
     rest_call h e = ap stepped (sym (rest_step phi1 h) ∙ passed _ _ (cycled phi1) e)
 
-    pub rest_refused : (e : Refusal) → refusal_number e ≡ refusal_of u (length m) (length s)
+    pub step_refused : (e : Refusal) → refusal_number e ≡ refusal_of u (length m) (length s)
         → stepped (quiet_step (refusal_number e) false u, m, s) ≡ step_call u m s high phi1 n low
     unfolding cycle_call
-    rest_refused e q = ap stepped (not_passed _ _ (cycled phi1) e q)
+    step_refused e q = ap stepped (not_passed _ _ (cycled phi1) e q)

@@ -1,7 +1,8 @@
 // The grant of a cycle: BA's edges, the terminal pair, the delay, then the plain rule.
-ghost use Rattle.std.specs.Prelude.{◌≡◌};
+ghost use Rattle.std.specs.Prelude.{◌≡◌, ◌&&◌};
 ghost use Rattle.controller.specs.BusAction.{cpu_ready_after_dma, decide, fall, fall_on_read, fall_on_swap_write, fall_on_write, granted, next_action, plain, repeated, resumed};
-ghost use Rattle.controller.specs.Reu.{with_dma};
+ghost use Rattle.controller.specs.Prelude.{not};
+ghost use Rattle.controller.specs.Reu.{with_dma, with_history};
 ghost use Rattle.controller.specs.Timing.{c64_access};
 ghost use Rattle.transfer.specs.Timing.{read_again, restored};
 
@@ -160,6 +161,17 @@ impl Reu {
         if resumes { self.read_again() } else { self }
     }
 
+    // What every cycle leaves: BA's level at PHI1, and whether it falls after that.
+    pub fn remembering(self, ba_high: bool, ba_high_phi1: bool) -> Reu
+        ensures { result ≡ with_history self ba_high_phi1 (ba_high_phi1 && not ba_high) }
+    {
+        Reu {
+            ba_was_high: ba_high_phi1,
+            late_ba_fall: ba_high_phi1 & !ba_high,
+            ..self
+        }
+    }
+
     #[tactic(auto, unfolding(crate::specs::BusAction::next_action))]
     #[inline(always)]
     pub(crate) fn next_action(self, ba_high: bool, ba_high_phi1: bool, cycle: u64) -> BusAnswer
@@ -168,12 +180,8 @@ impl Reu {
         let falling = self.ba_was_high & !ba_high_phi1;
         let rising = !self.ba_was_high & ba_high_phi1;
         let resumes = self.dma.is_some_and(|d| d.resumes(rising, cycle));
-        let remembering = Reu {
-            late_ba_fall: ba_high_phi1 & !ba_high,
-            ba_was_high: ba_high_phi1,
-            ..self
-        };
-        let out = remembering
+        let out = self
+            .remembering(ba_high, ba_high_phi1)
             .resumed(resumes)
             .repeat(falling)
             .decide(ba_high_phi1, falling, self.late_ba_fall);

@@ -44,7 +44,6 @@ impl Reu {
     }
 
     // Whether a cycle has nothing to do but to remember BA.
-    #[inline(always)]
     fn rests(self) -> bool
         ensures { result ≡ true → Rests self }
     {
@@ -72,9 +71,9 @@ impl Reu {
     }
 }
 
-// Advances a controller that the caller lends by one cycle: `Reu::run_reu_cycle` on a copy, stored back whole. At rest no copy is made: BA is
-// remembered where the controller stands.
-#[tactic(auto, using(crate::proofs::Rest::rest_call, crate::proofs::Rest::rest_refused))]
+// Advances a controller that the caller lends by one cycle: `Reu::run_reu_cycle` on a copy, stored back whole. At rest BA is remembered where
+// the controller stands.
+#[tactic(auto, using(crate::proofs::Rest::rest_call, crate::proofs::Rest::step_refused))]
 pub fn step(
     reu: &mut Reu,
     bus: &mut [u8],
@@ -88,8 +87,7 @@ pub fn step(
 {
     if reu.rests() {
         reu.test(bus.len(), storage.len())?;
-        reu.ba_was_high = ba_high_phi1;
-        reu.late_ba_fall = ba_high_phi1 & !ba_high;
+        *reu = reu.remembering(ba_high, ba_high_phi1);
         return Ok(Step::quiet(false));
     }
     let done = reu.run_reu_cycle(bus, storage, ba_high, ba_high_phi1, cycle, ba_low)?;

@@ -43,7 +43,7 @@ mark_of_code m =
     (λ e. by_test (λ x. ltb m 8 ≡ chip_mark x) (eqb (m / 4) 1) 262144 131072 (λ k. lt-ltb m 8 (omega (arith, eqb-true (m / 4) 1 k)))
     (λ k. le-ltb m 8 (omega (arith, eqb-false (m / 4) 0 e, eqb-false (m / 4) 1 k))))
 
--- below 12 bit 3 is 0 below 8
+-- bit 3 of a number below 12 is 0 where it is below 8, and only there
 not_smallest : (m : ℕ) → m < 12 → not (bit m 3) ≡ ltb m 8
 not_smallest m h = ap not (bit_div m 3) ∙ go (m / 8 % 2) refl
   where

@@ -1,4 +1,4 @@
--- What the functions inside the crate lay down and read. No exported contract cites this file.
+-- What single fields are laid down and read as. No exported contract cites this file.
 use Rattle.std.specs.Prelude.{ℕ, zero, suc, ◌-◌, ◌%◌, List, [], ◌∷◌, take, drop, get_or}
 use Rattle.transfer.specs.Constants.{expansion_limit}
 use Rattle.transfer.specs.declared.dma.DmaState.{DmaState}

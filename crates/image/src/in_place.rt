@@ -2,7 +2,7 @@
 // that what is lent has its length, and that a cycle has little to do. What is not looked at is not opened.
 ghost use Rattle.std.specs.Prelude.{◌≡◌, true, ◌%◌};
 ghost use Rattle.std.proofs.lemmas.List.Edits.{sets};
-ghost use Rattle.transfer.specs.Constants.{bus_size, expansion_limit};
+ghost use Rattle.transfer.specs.Constants.{expansion_limit};
 ghost use Rattle.regs.specs.FinishDma.{counters};
 ghost use Rattle.image.specs.Fields.{laid};
 ghost use Rattle.image.specs.Layout.{flag_bits, flags, flags_of, granted_field, kind, place_of, shadow_c64, shadow_exp, shadow_length, transfer_numbers};

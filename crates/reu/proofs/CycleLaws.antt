@@ -17,7 +17,7 @@ use Rattle.controller.specs.Reu.{with_dma, with_history}
 use Rattle.controller.specs.FinishDma.{publish_live_counters}
 use Rattle.controller.specs.TickDma.{Ticked, quiet_step, ticked, tick_dma, tick_of, tick_running, tick_by_type, tick_store, tick_recall, tick_swap, tick_verify, swap_read, swap_write, advance}
 use Rattle.controller.specs.Cycle.{run_reu_cycle, counted, cycle_by}
-use Rattle.controller.proofs.Rest.{grant_computed, by_grant}
+use Rattle.controller.proofs.Rest.{grant_computed, cycle_granted}
 use Rattle.image.specs.InPlace.{Moves}
 
 -- whoever unfolds this unfolds all that such a tick does
@@ -39,13 +39,13 @@ module _ (u : Reu) (m s : List ℕ) (high : Bool) (n : ℕ) (low : Bool) (d : Dm
   -- BA stays low: the processor is held, and BA's history alone changes
   pub hold_step : u.ba_was_high ≡ false → cycled false ≡ (quiet_step 0 true (now false), m, s)
   unfolding grant_computed cycle_by
-  hold_step q = by_grant u m s high n low false Hold (rw (q, h.runs, h.terminal, h.delay) refl)
+  hold_step q = cycle_granted u m s high n low false Hold (rw (q, h.runs, h.terminal, h.delay) refl)
 
   module _ (q : u.ba_was_high ≡ true) where
     -- BA stays high: the cycle is the transfer's
     taken : cycled true ≡ cycle_by Transfer (now true) m s n low
     unfolding grant_computed
-    taken = by_grant u m s high n low true Transfer (rw (q, h.runs, h.terminal, h.delay) refl)
+    taken = cycle_granted u m s high n low true Transfer (rw (q, h.runs, h.terminal, h.delay) refl)
 
     -- a swap's read half: the storage takes the bus's byte, the latch the storage's
     pub swap_read_step : d.transfer_type ≡ Swap → d.swap_phase ≡ ReadC64

@@ -2,7 +2,6 @@
 use Rattle.std.proofs.Common.{◌≡◌, ℕ, Bool, true, List, [], ◌∷◌, length, set, refl, sym, ap, ◌∙◌, subst}
 use borrow.Author.Tests.{eq-eqb}
 use Rattle.std.specs.Prelude.{Option, None, Some, Ok}
-use Rattle.std.proofs.lemmas.List.Edits.{sets}
 use Rattle.transfer.specs.Constants.{register_count}
 use Rattle.transfer.specs.declared.dma.DmaState.{DmaState}
 use Rattle.transfer.specs.declared.dma.Passed.{Passed}
@@ -15,7 +14,7 @@ use Rattle.controller.specs.TickDma.{ticked}
 use Rattle.controller.specs.Cycle.{run_reu_cycle}
 use Rattle.controller.specs.Calls.{cycle_call, step_number}
 use Rattle.controller.proofs.Checked.{passed}
-use Rattle.image.specs.Layout.{image_size, shadow_c64, shadow_exp, shadow_length, granted_field, pack_image, reu_at}
+use Rattle.image.specs.Layout.{image_size, granted_field, pack_image, reu_at}
 use Rattle.image.specs.Inner.{fitted, gets, stored}
 use Rattle.image.specs.InPlace.{Lent}
 use Rattle.image.specs.Open.{image_ok}
@@ -25,7 +24,7 @@ use Rattle.image.proofs.Opening.{open_good}
 use Rattle.image.proofs.Unpacked.{pack_open, opened_typed, opened_well}
 use Rattle.reu.specs.declared.Logged.{Logged}
 use Rattle.reu.specs.Exports.{change_both}
-use Rattle.reu.specs.Direct.{flagged, transfer_in}
+use Rattle.reu.specs.Direct.{flagged, registers_in, transfer_in}
 use Rattle.reu.proofs.Families.{both_done}
 
 module _ (i : List ℕ) (whole : Bytes i) (long : length i ≡ image_size) where
@@ -101,11 +100,11 @@ module _ (i : List ℕ) (whole : Bytes i) (long : length i ≡ image_size) where
     -- a register that is written leaves the registers, the shadows, the interrupt and whether a command is armed
     pub registers_laid : (regs : List ℕ) (c x n : ℕ) (irq armed : Bool) → length regs ≡ register_count
         → let w : Reu = record u { regs = regs; shadow_c64_addr = c; shadow_reu_addr = x; shadow_len = n; irq_pending = irq; waiting_ff00 = armed } in
-        flagged (stored shadow_length (stored shadow_exp (stored shadow_c64 (sets i 0 regs) c) x) n) w ≡ pack_image w
+        flagged (registers_in i regs c x n) w ≡ pack_image w
     unfolding pack_image
     registers_laid regs c x n irq armed h =
         let w : List ℕ → Reu → Reu = λ k r. record r { regs = k; shadow_c64_addr = c; shadow_reu_addr = x; shadow_len = n; irq_pending = irq; waiting_ff00 = armed } in
-        let lay : List ℕ → List ℕ → Reu → List ℕ = λ k l r. flagged (stored shadow_length (stored shadow_exp (stored shadow_c64 (sets l 0 k) c) x) n) (w k r) in
+        let lay : List ℕ → List ℕ → Reu → List ℕ = λ k l r. flagged (registers_in l k c x n) (w k r) in
         subst (λ (k : List ℕ). lay k i u ≡ pack_image (w k u)) (gets_all regs register_count h)
         (let k : List ℕ = gets 0 register_count regs in with_either (lay k) (w k) refl (λ d. refl))
 

@@ -19,9 +19,7 @@ use Rattle.controller.specs.Refusals.{well_formed}
 use Rattle.controller.specs.FinishDma.{update_irq}
 use Rattle.controller.specs.Registers.{write_other, debug_register, read_at, read_register, write_command, write_register}
 use Rattle.controller.specs.Calls.{debug_register_call, read_call, write_call}
-use Rattle.std.proofs.lemmas.List.Edits.{sets}
-use Rattle.image.specs.Inner.{stored}
-use Rattle.image.specs.Layout.{at, image_size, pack_image, reu_at, shadow_c64, shadow_exp, shadow_length}
+use Rattle.image.specs.Layout.{at, image_size, pack_image, reu_at}
 use Rattle.image.specs.Open.{image_ok}
 use Rattle.image.specs.Valid.{Bytes}
 use Rattle.image.proofs.ByBytes.{registers_are}
@@ -31,7 +29,7 @@ use Rattle.image.proofs.SoundCalls.{sound_write}
 use Rattle.image.proofs.Unpacked.{pack_open, opened_typed, opened_well}
 use Rattle.image.proofs.Valid.{sound_of}
 use Rattle.reu.specs.Exports.{refusal, look, change, reu_debug_register, reu_read, reu_write}
-use Rattle.reu.specs.Direct.{flagged, read_in, registered, starts}
+use Rattle.reu.specs.Direct.{flagged, read_in, registered, registers_in, starts}
 use Rattle.reu.proofs.Families.{look_refused, look_done, change_refused, change_done, served}
 use Rattle.reu.proofs.InPlace.{registers_laid, status_laid}
 
@@ -166,14 +164,11 @@ module _ (i : List ℕ) where
           sound : Sound w
           sound = subst Sound (sym e) (sound_write u a v (sound_of u (opened_typed i whole long ok) well) fits)
 
-          -- with another address in the expansion's shadow
-          abbrev shadowed : Reu → ℕ → List ℕ
-          shadowed r x = flagged (stored shadow_length (stored shadow_exp (stored shadow_c64 (sets i 0 w.regs) w.shadow_c64_addr) x) w.shadow_len) r
-
           pub write_done : starts a v ≡ false → (l : List ℕ) → l ≡ flagged (registered i w) w → (0, l) ≡ reu_write i a v
           unfolding write_call
           write_done quiet l h =
               let k : w ≡ kept u w = (subst (Kept u) (sym e) (write_kept u a v quiet)).is in
               ap (λ (m : List ℕ). (0, m))
-              (h ∙ ap (flagged (registered i w)) k ∙ ap (shadowed (kept u w)) (omega (arith, sound.exp)) ∙ registers_laid i whole long ok w.regs w.shadow_c64_addr w.shadow_reu_addr w.shadow_len w.irq_pending w.waiting_ff00 sound.regs.len ∙ ap pack_image (sym k ∙ e))
+              (h ∙ ap (flagged (registered i w)) k ∙ ap (λ (x : ℕ). flagged (registers_in i w.regs w.shadow_c64_addr x w.shadow_len) (kept u w)) (omega (arith, sound.exp))
+              ∙ registers_laid i whole long ok w.regs w.shadow_c64_addr w.shadow_reu_addr w.shadow_len w.irq_pending w.waiting_ff00 sound.regs.len ∙ ap pack_image (sym k ∙ e))
               ∙ change_done i u (sym (open_good i long ok)) (λ r. write_call r a v) (Ok (record { value = 0; reu = write_register u a v })) 0 (pack_image (write_register u a v)) (served u 0 0 (write_register u a v) well refl) refl

@@ -42,13 +42,15 @@ use Rattle.reu.specs.Direct.{Advances, Holds, remembered_in, transfer_in, half_i
 use Rattle.reu.proofs.CycleLaws.{went_on, hold_step, store_step, recall_step, swap_read_step, swap_write_step, verify_step}
 use Rattle.reu.proofs.InPlace.{settled, history_laid, half_laid, byte_laid}
 
--- an expansion address that three bytes hold, and one that moves stays so
+-- three bytes hold the expansion address
 abbrev Room : DmaState → Type 0
 Room d = d.reu_addr.0 < expansion_limit
 
+-- such a transfer is as its fields hold it
 fits : (d : DmaState) → Room d → fitted d ≡ d
 fits d h = ap (λ (n : ℕ). record d { reu_addr = record { 0 = n } }) (omega (arith, h))
 
+-- one that moves stays so
 moved_room : (d : DmaState) → Room d → Room (moved d)
 moved_room d h =
     by_test (λ (a : ExpansionAddress). a.0 < expansion_limit) d.fix_reu d.reu_addr (next_exp d.reu_addr) (λ _. h) (λ _. omega arith)

@@ -87,7 +87,10 @@ read_in i k =
 abbrev pub starts : ℕ → ℕ → Bool
 starts addr v = eqb (register_index addr) command && (bit v execute && bit v without_ff00)
 
--- the registers and the shadows of a controller
+-- registers, and shadows of the C64 address, the expansion address and the length
+abbrev pub registers_in : List ℕ → List ℕ → ℕ → ℕ → ℕ → List ℕ
+registers_in i regs c e n = stored shadow_length (stored shadow_exp (stored shadow_c64 (sets i 0 regs) c) e) n
+
+-- those of a controller
 abbrev pub registered : List ℕ → Reu → List ℕ
-registered i u =
-    stored shadow_length (stored shadow_exp (stored shadow_c64 (sets i 0 u.regs) u.shadow_c64_addr) (u.shadow_reu_addr % expansion_limit)) u.shadow_len
+registered i u = registers_in i u.regs u.shadow_c64_addr (u.shadow_reu_addr % expansion_limit) u.shadow_len

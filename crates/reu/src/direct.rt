@@ -186,18 +186,12 @@ fn differs(size: u32, d: DmaState, bus: &[u8], storage: &[u8]) -> bool
 
 // ---- the cycle
 
-// What every cycle leaves: BA's level at PHI1, and whether its fall came late.
 #[inline(always)]
 fn remember(image: &mut [u8; IMAGE_BYTES], ba_high: bool, ba_high_phi1: bool)
     ensures { image.new ≡ remembered_in image.old ba_high ba_high_phi1 }
 {
     let reu = unpack::controller_at(image);
-    let next = Reu {
-        ba_was_high: ba_high_phi1,
-        late_ba_fall: ba_high_phi1 & !ba_high,
-        ..reu
-    };
-    in_place::set_flags(image, next);
+    in_place::set_flags(image, reu.remembering(ba_high, ba_high_phi1));
 }
 
 // With no transfer: the processor has the bus.
