@@ -1,6 +1,6 @@
 //! Runs commands to their ends through the step over a lent controller and through the tick, and holds the log of each run
 //! to request L5: which register stores a step hands out. Then it makes wrong logs of right ones, each of which must be
-//! noticed. At last it does random operations on the original too. tools/count-step --check compiles and runs this.
+//! noticed. At last it runs random operations beside the original (`beside.rs`). tools/count-step --check compiles and runs this.
 
 mod beside;
 mod common;
@@ -62,7 +62,7 @@ fn line(log: &mut &[u8]) -> Line {
 /// The longest line: a controller before and after, a count and seven pairs, a flag and an image.
 const LINE: usize = 2 * (REGISTER_COUNT + 2) + 1 + 14 + 1 + IMAGE_SIZE;
 
-/// The log of operations on a new controller, a line for each. The storage is lent, for its size, if enabling comes first: it clears it.
+/// The log of operations on a new controller, a line for each. The storage is lent as it is: enabling, which must come first, clears it.
 fn lines(operations: &[Operation], bus: &mut [u8], storage: &mut [u8]) -> Vec<Line> {
     let packed: Vec<u32> = operations.iter().map(packed).collect();
     let mut log = vec![0xEE; packed.len() * LINE];

@@ -38,9 +38,9 @@ pub struct Line {
     /// Indexes and values.
     pub stores: Vec<(u8, u8)>,
     pub after: State,
-    /// Of a step.
+    /// What a step answers; false of a call.
     pub flag: bool,
-    /// After it.
+    /// The controller's after it.
     pub image: [u8; IMAGE_SIZE],
 }
 
