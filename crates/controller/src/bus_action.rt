@@ -162,14 +162,11 @@ impl Reu {
     }
 
     // What every cycle leaves: BA's level at PHI1, and whether it falls after that.
-    pub fn remembering(self, ba_high: bool, ba_high_phi1: bool) -> Reu
-        ensures { result ≡ with_history self ba_high_phi1 (ba_high_phi1 && not ba_high) }
+    pub fn remember(&mut self, ba_high: bool, ba_high_phi1: bool)
+        ensures { self.new ≡ with_history self.old ba_high_phi1 (ba_high_phi1 && not ba_high) }
     {
-        Reu {
-            ba_was_high: ba_high_phi1,
-            late_ba_fall: ba_high_phi1 & !ba_high,
-            ..self
-        }
+        self.ba_was_high = ba_high_phi1;
+        self.late_ba_fall = ba_high_phi1 & !ba_high;
     }
 
     #[tactic(auto, unfolding(crate::specs::BusAction::next_action))]
@@ -180,8 +177,9 @@ impl Reu {
         let falling = self.ba_was_high & !ba_high_phi1;
         let rising = !self.ba_was_high & ba_high_phi1;
         let resumes = self.dma.is_some_and(|d| d.resumes(rising, cycle));
-        let out = self
-            .remembering(ba_high, ba_high_phi1)
+        let mut next = self;
+        next.remember(ba_high, ba_high_phi1);
+        let out = next
             .resumed(resumes)
             .repeat(falling)
             .decide(ba_high_phi1, falling, self.late_ba_fall);

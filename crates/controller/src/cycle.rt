@@ -87,7 +87,7 @@ pub fn step(
 {
     if reu.rests() {
         reu.test(bus.len(), storage.len())?;
-        *reu = reu.remembering(ba_high, ba_high_phi1);
+        reu.remember(ba_high, ba_high_phi1);
         return Ok(Step::quiet(false));
     }
     let done = reu.run_reu_cycle(bus, storage, ba_high, ba_high_phi1, cycle, ba_low)?;

@@ -190,8 +190,9 @@ fn differs(size: u32, d: DmaState, bus: &[u8], storage: &[u8]) -> bool
 fn remember(image: &mut [u8; IMAGE_BYTES], ba_high: bool, ba_high_phi1: bool)
     ensures { image.new ≡ remembered_in image.old ba_high ba_high_phi1 }
 {
-    let reu = unpack::controller_at(image);
-    in_place::set_flags(image, reu.remembering(ba_high, ba_high_phi1));
+    let mut reu = unpack::controller_at(image);
+    reu.remember(ba_high, ba_high_phi1);
+    in_place::set_flags(image, reu);
 }
 
 // With no transfer: the processor has the bus.
