@@ -33,7 +33,7 @@ bad = replicate image_size 255
 
 -- cycle 5, with BA high
 unfoldable fifth : Clock
-fifth = record { cycle = 5; ba = record { bytes = record { items = [] }; fits = omega arith }; at = 0 }
+fifth = record { cycle = 5; ba = record { bytes = []; used = 0; fits = omega arith }; at = 0 }
 
 -- refused by 2: no access is shown
 refused_cycle_lem :

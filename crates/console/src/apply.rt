@@ -28,7 +28,7 @@ use text::words::{word, word_count};
 // A swap of 65,536 bytes takes 131,072 cycles, and BA may hold it as long again.
 const LIMIT: u32 = 0x40000;
 
-#[derive(Drop)]
+#[derive(Clone, Copy)]
 pub struct Applied {
     pub clock: Clock,
     // A line to show, where there is something to say.

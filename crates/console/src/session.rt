@@ -18,7 +18,7 @@ use pane::rows::size_in;
 use regs::Stores;
 use text::line::Line;
 
-#[derive(Drop)]
+#[derive(Clone, Copy)]
 pub struct Session {
     pub clock: Clock,
     // How many cycles are still to be stepped before the next line is read.
@@ -27,7 +27,7 @@ pub struct Session {
     pub ended: bool,
 }
 
-#[derive(Drop)]
+#[derive(Clone, Copy)]
 pub struct Turned<'a> {
     pub session: Session,
     // A line to show, where there is something to say.

@@ -241,7 +241,7 @@ pub fn after(clock: Clock, done: Result<Cycle, Refused>) -> Clock
 
 // How far a run came, which address ran over its top in any of its cycles, and what the last of them stored. The run ends with the
 // command, so no cycle before the last has stored anything (claims::autoload_stores: a step that stores has ended the command).
-#[derive(Drop)]
+#[derive(Clone, Copy)]
 pub struct Run {
     pub clock: Clock,
     pub granted: u64,

@@ -22,7 +22,7 @@ impl Inputs {
     };
 }
 
-#[derive(Drop)]
+#[derive(Clone, Copy)]
 pub struct Clock {
     pub cycle: u64,
     // A letter for each of the following cycles; past the end BA is high.

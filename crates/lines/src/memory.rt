@@ -140,7 +140,8 @@ pub fn bytes_line(kind: Memory, memory: &[u8], from: u32, end: u32) -> Line
     let stop = (start + PER_LINE).min(end as usize + 1);
     let mut line = address_text(kind, from);
     for at in start..stop {
-        line = line.text(b" ").hex(2, u32::from(byte(memory, at)));
+        line.push(b' ');
+        line.append_hex(2, u32::from(byte(memory, at)));
     }
     line
 }

@@ -1,13 +1,12 @@
 -- Lines that are made longer, and what does not fit.
 use mathlib.Core.Path.{◌≡◌, refl, sym, ◌∙◌, ap}
-use mathlib.Core.Bool.{false≢true}
 use mathlib.Core.List.{List, [], ◌∷◌, ◌++◌, append_assoc, append-nil}
-use Prim.Native.Nat.{ℕ, zero, suc, ◌+◌, ◌≤◌, ◌<◌}
+use Prim.Native.Nat.{ℕ, zero, suc, ◌+◌, ◌-◌, ◌≤◌, ◌<◌}
 use native.Mathlib.Omega.{arith}
-use lib.ListN.{length, take, replicate, length-take, length-append}
-use lib.Seq.{take-append-add, take_all}
-use Rattle.std.specs.Prelude.{Result, Ok, Err, IsOk, OnOk, OnErr, ◌↔◌}
-use Rattle.arrayvec.specs.ArrayVec.{ArrayVec}
+use native.Mathlib.Numerals.{add-one}
+use lib.ListN.{length, take, set, replicate, length-take, length-append}
+use lib.Seq.{take-append-add, take-suc-set, take_all}
+use Rattle.std.proofs.lemmas.List.{length-take-le, take_at}
 use Rattle.text.specs.Shown.{◌⊕◌}
 
 again : (n : ℕ) (x y : List ℕ) → take n (take n x ++ y) ≡ take n (x ++ y)
@@ -36,6 +35,10 @@ room t s h = sym (take_all 160 (t ++ s) (rw length-append h))
 pub none : (t : List ℕ) → length t ≤ 160 → t ≡ t ⊕ []
 none t h = sym (append-nil t) ∙ room t [] (omega arith)
 
+-- a line has no more
+pub within : (bytes : List ℕ) (used : ℕ) → used ≤ 160 → length (take used bytes) ≤ 160
+within bytes used h = rw length-take (omega arith)
+
 -- as much as there is room for
 pub part : (t s : List ℕ) (n : ℕ) → n + length t ≡ 160 → t ++ take n s ≡ t ⊕ s
 unfolding ◌⊕◌
@@ -55,22 +58,28 @@ pub blanks : (t s : List ℕ) (n : ℕ) {u : List ℕ} → u ≡ t ⊕ s → s �
 unfolding ◌⊕◌
 blanks t s n p e = p ∙ ap (λ (l : List ℕ). t ⊕ l) e ∙ enough 160 t n 160 (omega arith)
 
--- what `try_push` leaves
-pub pushed : {T E : Type 0} (r : Result T E) (old new : ArrayVec ℕ) (b : ℕ)
-    → (IsOk r ↔ (length old.items < 160)) → OnOk r (new.items ≡ old.items ++ (b ∷ [])) → OnErr r (new ≡ old)
-    → OnErr r (length old.items ≡ 160) → new.items ≡ old.items ⊕ (b ∷ [])
-pushed (Ok x) old new b v p q f = let h : length old.items < 160 = v.0 refl in p ∙ room old.items (b ∷ []) (omega arith)
-pushed (Err x) old new b v p q f =
-    ap (λ (a : ArrayVec ℕ). a.items) q ∙ sym (append-nil old.items) ∙ part old.items (b ∷ []) 0 (omega arith)
+module _ (bytes : List ℕ) (used b : ℕ) (n : length bytes ≡ 160) where
+  -- a byte behind what a line has
+  pub put_behind : used < 160 → take (used + 1) (set bytes used b) ≡ take used bytes ⊕ (b ∷ [])
+  put_behind h =
+      let long : length (take used bytes) ≡ used = length-take-le used bytes (omega (arith, n)) in
+      rw (add-one, take-suc-set bytes used b (omega (arith, n))) (room (take used bytes) (b ∷ []) (rw long (omega arith)))
 
--- what `try_extend_from_slice` leaves, where it is given as much as there is room for
-pub extended : {T E : Type 0} (r : Result T E) (old new : ArrayVec ℕ) (s first : List ℕ) (n : ℕ)
-    → n + length old.items ≡ 160 → first ≡ take n s → (IsOk r ↔ (length old.items + length first ≤ 160))
-    → OnOk r (new.items ≡ old.items ++ first) → new.items ≡ old.items ⊕ s
-extended (Ok x) old new s first n h e v p = p ∙ ap (λ (l : List ℕ). old.items ++ l) e ∙ part old.items s n h
-extended (Err x) old new s first n h e v p =
-    let short : length first ≤ n = rw (e, length-take) (omega arith) in
-    absurd (false≢true (v.1 (omega arith)))
+  -- there is no room for it
+  pub left_out : used ≤ 160 → 160 ≤ used → take used bytes ≡ take used bytes ⊕ (b ∷ [])
+  left_out h k =
+      let long : length (take used bytes) ≡ used = length-take-le used bytes (omega (arith, n)) in
+      sym (append-nil (take used bytes)) ∙ part (take used bytes) (b ∷ []) 0 (rw long (omega arith))
+
+-- a text laid behind what a line has, as much of it as there is room for
+pub extended : (bytes s rest : List ℕ) {first laid : List ℕ} (used : ℕ) → used ≤ 160 → length bytes ≡ 160 → first ≡ take (160 - used) s
+    → laid ≡ first → take (used + length first) (take used bytes ++ (laid ++ rest)) ≡ take used bytes ⊕ s
+extended bytes s rest {first} {laid} used h n e f =
+    let t : List ℕ = take used bytes in
+    let long : length t ≡ used = length-take-le used bytes (omega (arith, n)) in
+    let ends : length (t ++ laid) ≡ used + length first = length-append t laid ∙ rw (long, f) refl in
+    ap (take (used + length first)) (sym (append_assoc t laid rest)) ∙ take_at (t ++ laid) rest (used + length first) ends
+    ∙ ap (λ (l : List ℕ). t ++ l) (f ∙ e) ∙ part t s (160 - used) (rw long (omega arith))
 
 -- ---- a loop that puts a text into a line: the line becomes `goal` with what is left of the text
 

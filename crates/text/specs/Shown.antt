@@ -12,7 +12,7 @@ ascii (c ∷ˢ s) = code c ∷ ascii s
 
 -- the bytes of a line
 abbrev pub text_of : Line → List ℕ
-text_of l = l.bytes.items
+text_of l = take l.used l.bytes
 
 infixl 65 ◌⊕◌
 -- a text and another behind it: what does not fit in a line is left out

@@ -1,17 +1,17 @@
 // A line of text that is built piece by piece, by value, and then shown. What does not fit is left out: so no `write!`, which fails there.
-ghost use Rattle.std.specs.Prelude.{◌≤◌, length};
+ghost use Rattle.std.specs.Prelude.{◌≤◌};
 
 use crate::bytes::first;
 use crate::glyphs::{hex_digit, shown};
-use arrayvec::ArrayVec;
 
 pub const WIDTH: usize = 160;
 
-// Its bytes have fixed room, since nothing here may run out of memory.
-#[derive(Drop)]
+// Its bytes have fixed room, since nothing here may run out of memory; and it is a value that may be used twice, which no `ArrayVec` is.
+#[derive(Clone, Copy)]
 pub struct Line {
-    bytes: ArrayVec<u8, WIDTH>,
-    ghost fits: { length bytes.items ≤ 160 },
+    bytes: [u8; WIDTH],
+    used: usize,
+    ghost fits: { used ≤ 160 },
 }
 
 // A line that begins with a text: of a slice, and of a text in quotes, which is an array.
@@ -45,7 +45,8 @@ impl Line {
         ensures { text_of result ≡ [] }
     {
         Line {
-            bytes: ArrayVec::new(),
+            bytes: [b' '; WIDTH],
+            used: 0,
         }
     }
 
@@ -53,27 +54,64 @@ impl Line {
         ensures value { result.now ≡ text_of self.now }
         ensures fits { length result.now ≤ 160 }
     {
-        self.bytes.as_slice()
+        &self.bytes[..self.used]
     }
 
     pub fn is_empty(&self) -> bool
         ensures { result ≡ eqb (length (text_of self.now)) 0 }
     {
-        self.bytes.is_empty()
+        self.used == 0
     }
 
+    // ---- in place: by value a line would be copied for each byte
+
+    pub fn push(&mut self, byte: u8)
+        ensures { text_of self.new ≡ text_of self.old ⊕ (byte ∷ []) }
+    {
+        let at = self.used;
+        if at >= WIDTH {
+            return;
+        }
+        self.bytes[at] = byte;
+        self.used = at + 1;
+    }
+
+    fn append(&mut self, s: &[u8])
+        ensures { text_of self.new ≡ text_of self.old ⊕ s.now }
+    {
+        let used = self.used;
+        let taken = first(s, WIDTH - used);
+        let end = used + taken.len();
+        self.bytes[used..end].copy_from_slice(taken);
+        self.used = end;
+    }
+
+    // The last hexadecimal digits of a number.
+    pub fn append_hex(&mut self, digits: u8, n: u32)
+        ensures { text_of self.new ≡ text_of self.old ⊕ hex_of digits n }
+    {
+        if digits == 0 {
+            return;
+        }
+        self.append_hex(digits - 1, n / 16);
+        self.push(hex_digit(n % 16));
+    }
+
+    // ---- and by value
+
+    #[inline(always)]
     pub fn put(mut self, byte: u8) -> Line
         ensures { text_of result ≡ text_of self ⊕ (byte ∷ []) }
     {
-        let _ = self.bytes.try_push(byte);
+        self.push(byte);
         self
     }
 
+    #[inline(always)]
     pub fn text(mut self, s: &[u8]) -> Line
         ensures { text_of result ≡ text_of self ⊕ s.now }
     {
-        let room = self.bytes.remaining_capacity();
-        let _ = self.bytes.try_extend_from_slice(first(s, room));
+        self.append(s);
         self
     }
 
@@ -81,7 +119,7 @@ impl Line {
     pub fn pad(self, column: usize) -> Line
         ensures { text_of result ≡ padded column (text_of self) }
     {
-        let missing = column.saturating_sub(self.bytes.len());
+        let missing = column.saturating_sub(self.as_bytes().len());
         self.text(first(&[b' '; WIDTH], missing))
     }
 
@@ -114,14 +152,13 @@ impl Line {
 
     // ---- numbers
 
-    // The last hexadecimal digits of a number.
-    pub fn hex(self, digits: u8, n: u32) -> Line
+    // The last hexadecimal digits.
+    #[inline(always)]
+    pub fn hex(mut self, digits: u8, n: u32) -> Line
         ensures { text_of result ≡ text_of self ⊕ hex_of digits n }
     {
-        if digits == 0 {
-            return self;
-        }
-        self.hex(digits - 1, n / 16).put(hex_digit(n % 16))
+        self.append_hex(digits, n);
+        self
     }
 
     // In decimal.

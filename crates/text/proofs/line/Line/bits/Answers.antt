@@ -1,6 +1,6 @@
 use Rattle.std.proofs.Common.{add-one, drop-cons, drop_of_length-le}
 use Rattle.text.specs.Shown.{bits_from}
-use Rattle.text.proofs.Cuts.{onward, ended}
+use Rattle.text.proofs.Cuts.{onward, ended, within}
 use Rattle.text.proofs.line.Line.bits.Goals as goal
 
 pub loop-next-preserved : goal.loop-next-preserved
@@ -11,4 +11,4 @@ loop-next-preserved c =
 
 pub returns : goal.returns
 unfolding bits_from
-returns c = ended _ c.loop-next.line.fits (rw (drop_of_length-le c.args.template.now c.loop-next-test.false)) c.loop-next.invariant
+returns c = ended _ (within _ _ c.loop-next.line.fits) (rw (drop_of_length-le c.args.template.now c.loop-next-test.false)) c.loop-next.invariant

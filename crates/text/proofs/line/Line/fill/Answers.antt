@@ -1,6 +1,6 @@
 use Rattle.std.proofs.Common.{rules, ◌≡◌, ◌∷◌, [], add-one, cond, drop-cons, drop_of_length-le, eqb, slice_index_or}
 use Rattle.text.specs.Shown.{◌⊕◌, fill_from, text_of}
-use Rattle.text.proofs.Cuts.{onward, ended}
+use Rattle.text.proofs.Cuts.{onward, ended, within}
 use Rattle.text.proofs.line.Line.fill.Goals.{in-37, in_default}
 use Rattle.text.proofs.line.Line.fill.Goals as goal
 
@@ -14,4 +14,4 @@ loop-next-preserved c =
 
 pub returns : goal.returns
 unfolding fill_from
-returns c = ended _ c.loop-next.line.fits (rw (drop_of_length-le c.args.template.now c.loop-next-test.false)) c.loop-next.invariant
+returns c = ended _ (within _ _ c.loop-next.line.fits) (rw (drop_of_length-le c.args.template.now c.loop-next-test.false)) c.loop-next.invariant
