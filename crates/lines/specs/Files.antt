@@ -1,5 +1,5 @@
 -- The three files of a saved machine.
-use Rattle.std.specs.Prelude.{ℕ, Bool, false, cond, ◌||◌, List, [], eqb}
+use Rattle.std.specs.Prelude.{ℕ, Bool, false, cond, ◌||◌, List, [], ◌++◌, length, take, drop, eqb}
 use Rattle.text.specs.Shown.{◌⊕◌, ascii, decimal_up_to, fill_of}
 use Rattle.lines.specs.declared.files.Part.{Part}
 use Rattle.lines.specs.declared.files.Part.TheVariants.{Image, Bus, Storage}
@@ -17,6 +17,10 @@ abbrev pub part_name : List ℕ → Part → List ℕ
 part_name name Image = name
 part_name name Bus = name ⊕ ascii ".bus"
 part_name name Storage = name ⊕ ascii ".storage"
+
+-- bytes over others, from the first on: what has no room is left out
+abbrev pub copied_over : List ℕ → List ℕ → List ℕ
+copied_over from to = take (length to) from ++ drop (length from) to
 
 -- ---- a file that has another length than its part needs
 

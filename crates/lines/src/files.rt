@@ -1,8 +1,9 @@
 // The three files of a saved machine.
 ghost use Rattle.std.specs.Prelude.{◌≡◌, ◌≤◌, [], length};
 ghost use Rattle.text.specs.Shown.{◌⊕◌, text_of};
-ghost use Rattle.lines.specs.Files.{is_earlier, length_fault, length_text, part_name, reason_text, suffix_of};
+ghost use Rattle.lines.specs.Files.{copied_over, is_earlier, length_fault, length_text, part_name, reason_text, suffix_of};
 
+use text::bytes::first;
 use text::line::Line;
 
 // Lengths of images that earlier releases saved: before the count of granted cycles was in them, and with three bytes for what remains.
@@ -45,6 +46,14 @@ pub fn part_name(name: &[u8], part: Part) -> Line
     ensures whole { length name.now ≤ 160 → text_of result ≡ part_name name.now part }
 {
     Line::from(name).text(part.suffix())
+}
+
+// Bytes over others, from the first on. What has no room is left out.
+pub fn copy(from: &[u8], to: &mut [u8])
+    ensures { to.new ≡ copied_over from.now to.old }
+{
+    let part = first(from, to.len());
+    to[..part.len()].copy_from_slice(part);
 }
 
 // ---- a file that has another length than its part needs

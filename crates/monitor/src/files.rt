@@ -1,9 +1,9 @@
 // Saved machines: the image in a file, bus and storage in two files beside it. What cannot be done is the error, as a line that says why.
 ghost use Rattle.std.specs.Prelude.{◌≤◌, length};
 
-use crate::machine::Machine;
+use crate::machine::{BUS_BYTES, LARGEST_STORAGE, Machine};
 use image::layout::IMAGE_BYTES;
-use lines::files::{Length, Part, length_fault, part_name};
+use lines::files::{Length, Part, copy, length_fault, part_name};
 use lines::memory::empty;
 use pane::answers::answer;
 use std::fs::OpenFile;
@@ -36,8 +36,10 @@ fn keep(file: &impl OpenFile) -> io::Result<()> {
 // The file is made, or emptied if it is there.
 fn write_file(rt: &impl Files, name: &[u8], bytes: &[u8]) -> io::Result<()> {
     let mut file = fs::create(rt, path(name)?)?;
-    file.write_all(bytes)?;
-    keep(&file)
+    let written = file.write_all(bytes);
+    let kept = keep(&file); // of a part that was written in part, too
+    written?;
+    kept
 }
 
 fn save_part(rt: &impl Files, name: &[u8], part: Part, bytes: &[u8]) -> Result<(), Line> {
@@ -113,9 +115,15 @@ pub(crate) fn read_image(rt: &impl Files, name: &[u8]) -> Result<[u8; IMAGE_BYTE
 
 // All three parts. The image says how long the storage is, and behind it there are zeros. The machine is changed once all three are there.
 pub(crate) fn open(rt: &impl Files, name: &[u8], machine: &mut Machine) -> Result<(), Line> {
-    let mut saved = Machine::with_image(read_image(rt, name)?);
+    let mut saved = Machine {
+        image: read_image(rt, name)?,
+        bus: empty::<BUS_BYTES>(),
+        storage: empty::<LARGEST_STORAGE>(),
+    };
     read_part(rt, name, Part::Bus, &mut saved.bus)?;
     read_part(rt, name, Part::Storage, saved.lent_mut())?;
-    *machine = saved;
+    copy(&saved.image, &mut machine.image);
+    copy(&saved.bus, &mut machine.bus);
+    copy(&saved.storage, &mut machine.storage);
     Ok(())
 }

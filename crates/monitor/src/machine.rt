@@ -1,14 +1,15 @@
 // The machine that a session is about: a controller by its image, the bus, and as many bytes as the largest storage has. Arrays, since
-// there is no heap.
+// there is no heap. One is written out where it lies, in `main` and in `files::open`: what a function hands out is copied, and the stack would
+// have room for two.
 use console::session;
 use console::session::{Session, Turned};
 use image::layout::IMAGE_BYTES;
-use lines::memory::{clear_from, empty};
+use lines::memory::clear_from;
 use pane::rows::lent;
 
-const BUS_BYTES: usize = 65536;
+pub(crate) const BUS_BYTES: usize = 65536;
 
-const LARGEST_STORAGE: usize = 524288;
+pub(crate) const LARGEST_STORAGE: usize = 524288;
 
 #[derive(Drop)]
 pub struct Machine {
@@ -18,22 +19,6 @@ pub struct Machine {
 }
 
 impl Machine {
-    // One with this image, and every other byte 00.
-    pub(crate) fn with_image(image: [u8; IMAGE_BYTES]) -> Machine {
-        Machine {
-            image,
-            bus: empty::<BUS_BYTES>(),
-            storage: empty::<LARGEST_STORAGE>(),
-        }
-    }
-
-    // A new machine.
-    pub(crate) fn new() -> Machine {
-        let mut image = empty::<IMAGE_BYTES>();
-        reu::reu_new(&mut image);
-        Machine::with_image(image)
-    }
-
     // The storage that the image sets: the first of the bytes.
     pub(crate) fn lent(&self) -> &[u8] {
         let size = lent(&self.image, &self.storage);

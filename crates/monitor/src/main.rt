@@ -10,8 +10,10 @@ mod turn;
 
 use console::session::Session;
 use files::open_read;
+use image::layout::IMAGE_BYTES;
+use lines::memory::empty;
 use lines::prompt::is_colour;
-use machine::Machine;
+use machine::{BUS_BYTES, LARGEST_STORAGE, Machine};
 use output::{say, tell};
 use std::env::Env;
 use std::io;
@@ -31,14 +33,15 @@ fn argument(rt: &impl Env, i: usize) -> Option<Line> {
 }
 
 // Until the session ends. It counts, as reading a line does, since a `loop` until then has no measure.
-fn turns<S: Read>(
+fn turns(
     rt: &(impl Files + Print),
-    terminal: &mut Terminal<S>,
+    source: &mut impl Read,
+    terminal: Terminal,
     machine: &mut Machine,
 ) -> io::Result<()> {
     let mut session = Session::new();
     for _ in 0..u64::MAX {
-        session = turn(rt, session, terminal, machine)?;
+        session = turn(rt, session, source, terminal, machine)?;
         if session.ended {
             return Ok(());
         }
@@ -48,8 +51,9 @@ fn turns<S: Read>(
 
 fn begin(
     rt: &(impl Files + Print),
-    source: impl Read + IsTerminal + Drop,
+    mut source: impl Read + IsTerminal + Drop,
     colour: bool,
+    machine: &mut Machine,
 ) -> io::Result<()> {
     let typed = source.is_terminal();
     if typed {
@@ -58,12 +62,11 @@ fn begin(
             b"A new machine, not enabled yet. help lists the commands.",
         )?;
     }
-    let mut terminal = Terminal {
-        source,
+    let terminal = Terminal {
         colour,
         echo: !typed,
     };
-    turns(rt, &mut terminal, &mut Machine::new())
+    turns(rt, &mut source, terminal, machine)
 }
 
 // Commands come from standard input, or from the file that an argument names: the first, or the one after --colour. It ends with an
@@ -74,11 +77,18 @@ fn main(rt: HostRuntime) -> io::Result<()> {
         .as_ref()
         .is_some_and(|word| is_colour(word.as_bytes()));
     let script = if colour { argument(&rt, 2) } else { first };
+    // A new machine. `begin`, which is compiled for each kind of source, is lent it, so that there is one.
+    let mut machine = Machine {
+        image: empty::<IMAGE_BYTES>(),
+        bus: empty::<BUS_BYTES>(),
+        storage: empty::<LARGEST_STORAGE>(),
+    };
+    reu::reu_new(&mut machine.image);
     let Some(name) = script else {
-        return begin(&rt, rt.stdin(), colour);
+        return begin(&rt, rt.stdin(), colour, &mut machine);
     };
     match open_read(&rt, name.as_bytes()) {
-        Ok(file) => begin(&rt, file, colour),
+        Ok(file) => begin(&rt, file, colour, &mut machine),
         Err(_) => say(
             &rt,
             &Line::new().fill(b"cannot read the commands in %", name.as_bytes()),

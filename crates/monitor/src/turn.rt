@@ -17,11 +17,9 @@ use std::rt::Files;
 use text::line::Line;
 use text::words::word;
 
-// Where commands come from, and how they are shown: in colour, and, where nobody typed them, each before its answer. Both are
-// asked once, at the start.
-#[derive(Drop)]
-pub struct Terminal<S> {
-    pub source: S,
+// How commands are shown: in colour, and, where nobody typed them, each before its answer. Both are asked once, at the start.
+#[derive(Clone, Copy)]
+pub struct Terminal {
     pub colour: bool,
     pub echo: bool,
 }
@@ -45,19 +43,20 @@ fn echo(rt: &impl Print, cycle: u64, source: &mut impl Read) -> io::Result<Optio
 }
 
 // The next line; none at the input's end. While cycles are still to be stepped it is not looked at, so a line of no bytes stands for it.
-fn listen<S: Read>(
+fn listen(
     rt: &impl Print,
     session: &Session,
-    terminal: &mut Terminal<S>,
+    source: &mut impl Read,
+    terminal: Terminal,
 ) -> io::Result<Option<Line>> {
     if session.left > 0 {
         return Ok(Some(Line::new()));
     }
     let cycle = session.clock.cycle;
     if terminal.echo {
-        return echo(rt, cycle, &mut terminal.source);
+        return echo(rt, cycle, source);
     }
-    ask(rt, cycle, &mut terminal.source)
+    ask(rt, cycle, source)
 }
 
 // What was done is said by a text in which the file's name stands for each %, and what was not by the error.
@@ -119,13 +118,14 @@ fn perform<P: Files + Print>(
 }
 
 // One cycle or one command, and then the rows of the pane that it changed.
-pub(crate) fn turn<S: Read, P: Files + Print>(
+pub(crate) fn turn<P: Files + Print>(
     rt: &P,
     session: Session,
-    terminal: &mut Terminal<S>,
+    source: &mut impl Read,
+    terminal: Terminal,
     machine: &mut Machine,
 ) -> io::Result<Session> {
-    let Some(line) = listen(rt, &session, terminal)? else {
+    let Some(line) = listen(rt, &session, source, terminal)? else {
         return Ok(session.end());
     };
     let before = machine.image;
