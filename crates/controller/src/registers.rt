@@ -1,5 +1,5 @@
 // The register interface.
-ghost use Rattle.std.specs.Prelude.{◌≡◌, ◌+◌, ◌<◌};
+ghost use Rattle.std.specs.Prelude.{◌≡◌};
 ghost use Rattle.transfer.specs.Constants.{address_control, interrupt_mask};
 ghost use Rattle.regs.specs.Registers.{shown};
 ghost use Rattle.controller.specs.Reu.{set_reg};
@@ -9,9 +9,9 @@ ghost use Rattle.controller.specs.Registers.{debug_register, load_pair, read_reg
 use crate::reu::{Answered, Reu};
 use regs::{
     ADDRESS_CONTROL, C64_ADDRESS_HIGH, C64_ADDRESS_LOW, COMMAND, COMMAND_EXECUTE,
-    COMMAND_FF00_DISABLE, INTERRUPT_MASK, REU_ADDRESS_BANK, REU_ADDRESS_HIGH, REU_ADDRESS_LOW,
-    STATUS, TRANSFER_LENGTH_HIGH, TRANSFER_LENGTH_LOW, UNUSED_REGISTER_VALUE, acknowledged,
-    register_index, shown, with_bank, with_high, with_low,
+    COMMAND_FF00_DISABLE, INTERRUPT_MASK, REGISTER_COUNT, REU_ADDRESS_BANK, REU_ADDRESS_HIGH,
+    REU_ADDRESS_LOW, STATUS, TRANSFER_LENGTH_HIGH, TRANSFER_LENGTH_LOW, UNUSED_REGISTER_VALUE,
+    acknowledged, register_index, shown, with_bank, with_high, with_low,
 };
 
 impl Reu {
@@ -51,22 +51,33 @@ impl Reu {
         self.start_dma()
     }
 
+    // A register's byte; a place outside the registers takes none.
+    #[tactic(auto, using(std::proofs::lemmas::List::set_past))]
+    #[inline(always)]
+    fn with_register(mut self, index: usize, value: u8) -> Reu
+        ensures { result ≡ set_reg self index value }
+    {
+        if index >= REGISTER_COUNT {
+            return self;
+        }
+        self.regs[index] = value;
+        self
+    }
+
     // A shadow is shown in the two registers of its pair.
-    fn with_pair(mut self, low: usize, shadow: u16) -> Reu
-        requires { low < 10 }
-        ensures { result ≡ load_pair self low (low + 1) shadow }
+    fn with_pair(self, low: usize, high: usize, shadow: u16) -> Reu
+        ensures { result ≡ load_pair self low high shadow }
     {
         let [low_byte, high_byte] = shadow.to_le_bytes();
-        self.regs[low] = low_byte;
-        self.regs[low + 1] = high_byte;
-        self
+        self.with_register(low, low_byte)
+            .with_register(high, high_byte)
     }
 
     fn write_c64(mut self, shadow: u16) -> Reu
         ensures { result ≡ write_c64 self shadow }
     {
         self.shadow_c64_addr = shadow;
-        self.with_pair(C64_ADDRESS_LOW, shadow)
+        self.with_pair(C64_ADDRESS_LOW, C64_ADDRESS_HIGH, shadow)
     }
 
     fn write_reu(mut self, shadow: u32) -> Reu
@@ -74,7 +85,11 @@ impl Reu {
     {
         let [low, high, _, _] = shadow.to_le_bytes();
         self.shadow_reu_addr = shadow;
-        self.with_pair(REU_ADDRESS_LOW, u16::from_le_bytes([low, high]))
+        self.with_pair(
+            REU_ADDRESS_LOW,
+            REU_ADDRESS_HIGH,
+            u16::from_le_bytes([low, high]),
+        )
     }
 
     fn write_bank(mut self, bank: u8) -> Reu
@@ -89,7 +104,7 @@ impl Reu {
         ensures { result ≡ write_len self shadow }
     {
         self.shadow_len = shadow;
-        self.with_pair(TRANSFER_LENGTH_LOW, shadow)
+        self.with_pair(TRANSFER_LENGTH_LOW, TRANSFER_LENGTH_HIGH, shadow)
     }
 
     // Enabling an event that is already latched raises the interrupt.
