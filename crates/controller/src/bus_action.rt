@@ -49,6 +49,7 @@ impl Reu {
     }
 
     #[tactic(auto, unfolding(crate::specs::BusAction::fall_on_read))]
+    #[inline(always)]
     fn fall_on_read(mut self) -> BusAnswer
         ensures { result ≡ fall_on_read self }
     {

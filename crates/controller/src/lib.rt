@@ -8,9 +8,11 @@
 // Bus and storage stay two arguments, as the C interface lends them: with a struct of two slices each contract would have one clause more, that it
 // still lends the same two. So do BA's inputs and the cycle: they come one by one from the C interface, as from the original's callers.
 //
-// `#[inline(always)]` stands above functions of the step, and above a write of a register. A controller by value is
+// `#[inline(always)]` stands above functions of the step, of a tick and of a grant, and above a write of a register. A controller by value is
 // passed in memory, and a chain of calls that is not made one function copies it at each border; a call that stays one keeps it in memory
-// around the calls too. It stands only where the compiler does not make one function by itself, as tools/count-step and tools/count-instructions count it.
+// around the calls too. It stands only where the compiler does not make one function by itself, as tools/count-step and tools/count-instructions count
+// it, or as the time of a call shows it, since a copy waits for what was just written: `tick`, `tick_of` and `fall_on_read` are few instructions fewer
+// so, and `tick_dma` and `bus_action` take 0.5 to 0.6 of the time.
 #![tactic(auto)]
 
 mod bus_action;

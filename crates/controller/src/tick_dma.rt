@@ -208,6 +208,7 @@ impl Reu {
 
     // A command needs storage: without it it is dropped.
     #[tactic(auto, unfolding(crate::specs::TickDma::tick_of))]
+    #[inline(always)]
     fn tick_of(self, d: DmaState, seen: Seen, cycle: u64, ba_low: bool) -> TickAnswer
         ensures { result ≡ tick_of (Some d) self seen cycle ba_low }
     {
@@ -220,6 +221,7 @@ impl Reu {
 
     // One granted cycle advances one phase.
     #[tactic(auto, unfolding(crate::specs::TickDma::tick_dma, crate::specs::TickDma::tick_of))]
+    #[inline(always)]
     pub(crate) fn tick(
         self,
         bus: &mut [u8],
