@@ -18,15 +18,16 @@ use Rattle.transfer.specs.declared.timing.ReuC64Access.{ReuC64Access}
 use Rattle.transfer.specs.declared.timing.ReuC64Access.TheVariants.{Read, Write}
 use Rattle.controller.specs.declared.reu.Reu.{Reu}
 use Rattle.controller.specs.BusAction.{Granted, bus_action}
-use Rattle.controller.specs.Calls.{answered, bus_action_call, c64_access_call, granted_answer, refused}
-use Rattle.controller.specs.Refusals.{checked, refusal_of}
+use Rattle.controller.specs.Calls.{answered, bus_action_call, c64_access_call, granted_answer, refused, set_size_call}
+use Rattle.controller.specs.Enable.{set_size}
+use Rattle.controller.specs.Refusals.{checked, refusal_of, size_refusal}
 use Rattle.controller.specs.Timing.{c64_access}
 use Rattle.image.specs.Fields.{lifted, values}
 use Rattle.image.specs.Layout.{at, fields, more_flags, reu_at, transfer, transfer_c64, transfer_of}
 use Rattle.image.specs.Open.{open_image}
 use Rattle.image.proofs.Fields.{below_at}
 use Rattle.image.proofs.Opening.{opened_is}
-use Rattle.reu.specs.Exports.{change_storage, code, flag, look, refusal, refusal_unit, reu_bus_action, reu_c64_access}
+use Rattle.reu.specs.Exports.{change, change_storage, code, flag, look, refusal, refusal_unit, reu_bus_action, reu_c64_access, reu_set_size}
 use Rattle.pane.specs.declared.answers.Refused.{Refused}
 use Rattle.pane.specs.Answers.{Answers, accepted}
 use Rattle.pane.proofs.Bytes.{ranges}
@@ -160,6 +161,15 @@ module _ (i : List ℕ) where
 
     pub grant_answers : Grant (reu_bus_action i s high phi1 number).0 ⊎ Alone (reu_bus_action i s high phi1 number).0
     grant_answers = grant_by (eqb n 0) refl
+
+  -- setting a size answers 0, or a refusal alone
+  size_by : (size : ℕ) (b : Bool) → eqb n 0 ≡ b → Says 0 (reu_set_size i size).0
+  unfolding change checked set_size_call
+  size_by size true e = rw e (says (size_refusal u size) 0 u (set_size u size) _ refl)
+  size_by size false e = rw e (inr (alone n (eqb-false n 0 e)))
+
+  pub size_answers : (size : ℕ) → Says 0 (reu_set_size i size).0
+  size_answers size = size_by size (eqb n 0) refl
 
 -- ---- an access read back from that number; none, where the call is refused
 

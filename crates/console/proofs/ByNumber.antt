@@ -13,7 +13,7 @@ use Rattle.transfer.specs.declared.timing.ReuBusAction.TheVariants.{Cpu, Hold, T
 use Rattle.transfer.specs.declared.timing.ReuC64Access.{ReuC64Access}
 use Rattle.transfer.specs.declared.timing.ReuC64Access.TheVariants.{Read, Write}
 use Rattle.regs.specs.Stores.{Stores}
-use Rattle.reu.specs.Exports.{refusal, refusal_unit, reu_c64_access}
+use Rattle.reu.specs.Exports.{refusal, refusal_unit, reu_c64_access, reu_set_size}
 use Rattle.pane.specs.Answers.{accepted, refused_as, refused_by}
 use Rattle.text.specs.Bytes.{byte_at}
 use Rattle.text.specs.Shown.{◌⊕◌, ascii, hex_of}
@@ -21,7 +21,7 @@ use Rattle.lines.specs.Clock.{Time, next_clock, next_time}
 use Rattle.console.specs.declared.step.Cycle.{Cycle}
 use Rattle.console.specs.declared.step.Run.{Run}
 use Rattle.console.specs.Step.{access_in, access_ready, access_text, bytes_by, counted, grant_text, refused_in, time_after}
-use Rattle.console.proofs.Answered.{Access, Alone, access_answers, large, small_access}
+use Rattle.console.proofs.Answered.{Access, Alone, Says, access_answers, large, size_answers, small_access}
 
 -- a refusal is past every value
 refused_large : (n : ℕ) → 1 ≤ n → accepted (refusal n) ≡ false
@@ -157,3 +157,12 @@ size_is n = go (eqb n 6) refl ∙ ap (λ (k : ℕ). eqb k 6) (sym (back n))
     go : (b : Bool) → eqb n 6 ≡ b → eqb (refusal n) (refusal 6) ≡ eqb n 6
     go true e = let s = eqb-true n 6 e in rw (e, eq-eqb (refusal n) (refusal 6) (ap refusal s)) refl
     go false e = rw (e, ne_eqb (refusal n) (refusal 6) (λ z. eqb-false n 6 e (omega (arith, z)))) refl
+
+-- and that is what setting one answers: 0, or a refusal alone
+pub size_said_is : (i : List ℕ) (size : ℕ)
+    → let answer : ℕ = (reu_set_size i size).0 in eqb answer (refusal 6) ≡ eqb (answer / refusal_unit) 6
+size_said_is i size = go (reu_set_size i size).0 (size_answers i size)
+  where
+    go : (answer : ℕ) → Says 0 answer → eqb answer (refusal 6) ≡ eqb (answer / refusal_unit) 6
+    go answer (inl p) = rw p refl
+    go answer (inr p) = rw p.2 (size_is p.0)

@@ -9,17 +9,17 @@ use Rattle.controller.specs.Answers.{Answer}
 use Rattle.controller.specs.declared.reu.Reu.{Reu}
 use Rattle.controller.specs.Enable.{reset_reu, set_size, set_enabled}
 use Rattle.controller.specs.Refusals.{well_formed, size_refusal, checked}
-use Rattle.controller.specs.Registers.{write_register}
+use Rattle.controller.specs.Registers.{read_register, write_register}
 use Rattle.controller.specs.StartDma.{trigger_ff00}
 use Rattle.controller.specs.BusAction.{bus_action, cpu_ready_after_dma}
 use Rattle.controller.specs.TickDma.{Ticked, quiet_step, tick_dma}
 use Rattle.controller.specs.Cycle.{run_reu_cycle}
-use Rattle.controller.specs.Calls.{numbered, answered, refused, reset_call, set_size_call, set_enabled_call, storage_present_call, capacity_bytes_call, trigger_call, write_call, dma_active_call, bus_action_call, cpu_ready_call, debug_register_call, c64_access_call, tick_call, cycle_call}
+use Rattle.controller.specs.Calls.{numbered, answered, refused, reset_call, set_size_call, set_enabled_call, storage_present_call, capacity_bytes_call, trigger_call, read_call, write_call, dma_active_call, bus_action_call, cpu_ready_call, debug_register_call, c64_access_call, tick_call, cycle_call}
 use Rattle.controller.proofs.Checked.{size_accepted, tick_accepted, cycle_accepted}
 use Rattle.transfer.proofs.Pick.{by_test}
 use Rattle.image.specs.Valid.{Bytes}
 use Rattle.image.proofs.Sound.{Sound}
-use Rattle.image.proofs.SoundCalls.{SoundState, bytes_memory, sound_fresh, sound_size, sound_trigger, sound_write, sound_next, sound_switch, sound_tick_dma, sound_cycle}
+use Rattle.image.proofs.SoundCalls.{SoundState, bytes_memory, sound_fresh, sound_size, sound_trigger, sound_read, sound_write, sound_next, sound_switch, sound_tick_dma, sound_cycle}
 use Rattle.image.proofs.Valid.{sound_well}
 
 -- "A refusal has value 0"
@@ -98,6 +98,10 @@ module _ (u : Reu) (s : Sound u) where
   pub trigger_whole : Whole (trigger_call u)
   unfolding trigger_call
   trigger_whole = alone _ _ (trigger_ff00 u) (sound_trigger u s)
+
+  pub read_whole : (a : ℕ) → Whole (read_call u a)
+  unfolding read_call
+  read_whole a = alone _ _ (read_register u a).reu (sound_read u a s)
 
   pub write_whole : (a v : ℕ) → v < 256 → Whole (write_call u a v)
   unfolding write_call
