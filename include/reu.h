@@ -80,7 +80,7 @@
 extern "C" {
 #endif
 
-#define REU_VERSION "0.5.3"
+#define REU_VERSION "0.5.4"
 
 /* Lengths of the buffers, a storage's if no other is set; REU_IMAGE_SIZE stands behind the image's places. */
 #define REU_BUS_SIZE 65536
