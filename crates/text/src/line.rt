@@ -1,4 +1,4 @@
-// A line of text that is built piece by piece, by value, and then shown. What does not fit is left out: so no `write!`, which fails there.
+// A line of text that is built piece by piece, by value or in place, and then shown. What does not fit is left out: so no `write!`, which fails there.
 ghost use Rattle.std.specs.Prelude.{◌≤◌};
 
 use crate::bytes::first;
